@@ -1,0 +1,35 @@
+-- What a call answers: a value, or a refusal. Definitions only.
+use Prim.Native.Nat.{ℕ}
+use mathlib.Core.Bool.{Bool, true, false}
+use mathlib.Core.List.{List, _++_}
+use lib.ListN.{length, drop}
+use lib.Dec.{leb}
+use Rattle.vmd_format.specs.Refusal.{Refusal, output-too-short}
+
+pub data Answer (A : Type 0) : Type 0 where
+  declined : Refusal → Answer A
+  given : A → Answer A
+
+-- the first refusal met is the answer
+unfoldable pub and-then : {A B : Type 0} → Answer A → (A → Answer B) → Answer B
+and-then (declined k) f = declined k
+and-then (given a) f = f a
+
+unfoldable pub map-answer : {A B : Type 0} → (A → B) → Answer A → Answer B
+map-answer f (declined k) = declined k
+map-answer f (given a) = given (f a)
+
+unfoldable pub unless : {A : Type 0} → Bool → Refusal → Answer A → Answer A
+unless true k x = x
+unless false k x = declined k
+
+-- "output shorter than the export: 13": bytes that are to be written into an output of n bytes
+unfoldable pub fitted : ℕ → Answer (List ℕ) → Answer (List ℕ)
+fitted n (declined k) = declined k
+fitted n (given s) = unless (leb (length s) n) output-too-short (given s)
+
+-- The lent output at exit: the bytes "at the front of the output; the rest of the output keeps its contents", and in a
+-- refusal all of it.
+unfoldable pub left : List ℕ → Answer (List ℕ) → List ℕ
+left out (declined k) = out
+left out (given s) = s ++ drop (length s) out

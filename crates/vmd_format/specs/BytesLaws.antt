@@ -1,0 +1,108 @@
+-- Laws of numbers and names in bytes.
+use Prim.Native.Nat.{ℕ, zero, suc, _+_, _*_, _/_, _%_, _≤_, _<_, _^_}
+use mathlib.Core.Path.{_≡_, refl, ap, sym, _∙_, subst}
+use mathlib.Core.Bool.{Bool, true, false}
+use mathlib.Core.List.{List, [], _∷_, _++_}
+use native.Mathlib.Omega.{arith}
+use native.Mathlib.Nat.{not-suc-le-zero, div-div-eq-div-mul}
+use lib.ListN.{length, getD, take, drop}
+use lib.Seq.{getD-drop}
+use Rattle.vmd_format.specs.Bytes.{u32, u32-bytes, before-zero, padded, is-zero, is-set, inverted-byte, flag-byte}
+
+-- each element is a byte
+abbrev pub Bytes : List ℕ → Type 0
+Bytes s = (i : ℕ) → getD s i 0 < 256
+
+pub bytes-drop : (n : ℕ) (s : List ℕ) → Bytes s → Bytes (drop n s)
+bytes-drop n s h i = rw getD-drop (h (n + i))
+
+pub bytes-nil : Bytes []
+bytes-nil i = omega arith
+
+digits : (n a b c : ℕ) → n / 256 ≡ a → a / 256 ≡ b → b / 256 ≡ c → c < 256
+    → n % 256 + 256 * (a % 256) + 65536 * (b % 256) + 16777216 * (c % 256) ≡ n
+digits n a b c p q r h = omega arith
+
+pub u32-back : (n : ℕ) (rest : List ℕ) → n < 2 ^ 32 → u32 (u32-bytes n ++ rest) ≡ n
+unfolding u32 u32-bytes
+u32-back n rest h =
+    digits n (n / 256) (n / 65536) (n / 16777216) refl (div-div-eq-div-mul n 256 256) (div-div-eq-div-mul n 65536 256) (omega arith)
+
+pub u32-lt : (s : List ℕ) → Bytes s → u32 s < 2 ^ 32
+unfolding u32
+u32-lt s h = omega (arith, h 0, h 1, h 2, h 3)
+
+-- a name: bytes other than zero, at most n
+pub record Name (n : ℕ) (s : List ℕ) : Type 0 where
+  pub short : length s ≤ n
+  pub none-zero : (i : ℕ) → i < length s → 0 < getD s i 0
+  pub small : Bytes s
+
+pub record Raw (n : ℕ) (s : List ℕ) : Type 0 where
+  pub long : length s ≡ n
+  pub small : Bytes s
+
+pub padded-length : (n : ℕ) (s : List ℕ) → length (padded n s) ≡ n
+unfolding padded
+padded-length zero s = refl
+padded-length (suc n) [] = ap suc (padded-length n [])
+padded-length (suc n) (b ∷ s) = ap suc (padded-length n s)
+
+-- zeros alone hold the empty name
+zeros-back : (n : ℕ) (rest : List ℕ) → before-zero (take n (padded n [] ++ rest)) ≡ []
+unfolding padded before-zero
+zeros-back zero rest = refl
+zeros-back (suc n) rest = refl
+
+pub padded-back : (n : ℕ) (s rest : List ℕ) → Name n s → before-zero (take n (padded n s ++ rest)) ≡ s
+unfolding padded before-zero
+padded-back n [] rest h = zeros-back n rest
+padded-back zero (b ∷ s) rest h = absurd (not-suc-le-zero (h .short))
+padded-back (suc n) (zero ∷ s) rest h = absurd (not-suc-le-zero (h .none-zero 0 (omega arith)))
+padded-back (suc n) (suc b ∷ s) rest h =
+    ap {B = List ℕ} (λ r. suc b ∷ r)
+    (padded-back n s rest (record { short = omega (arith, h .short); none-zero = λ i k. h .none-zero (suc i) (omega arith); small = λ i. h .small (suc i) }))
+
+pub padded-take : (n : ℕ) (s rest : List ℕ) → length s ≡ n → take n (padded n s ++ rest) ≡ s
+unfolding padded
+padded-take zero [] rest h = refl
+padded-take zero (b ∷ s) rest h = absurd (omega arith)
+padded-take (suc n) [] rest h = absurd (omega arith)
+padded-take (suc n) (b ∷ s) rest h = ap {B = List ℕ} (λ r. b ∷ r) (padded-take n s rest (omega arith))
+
+pub bytes-take : (n : ℕ) (s : List ℕ) → Bytes s → Bytes (take n s)
+bytes-take zero s h i = omega arith
+bytes-take (suc n) [] h i = omega arith
+bytes-take (suc n) (b ∷ s) h zero = h 0
+bytes-take (suc n) (b ∷ s) h (suc i) = bytes-take n s (λ j. h (suc j)) i
+
+pub name-fair : (n : ℕ) (s : List ℕ) → Bytes s → Name n (before-zero (take n s))
+unfolding before-zero
+name-fair zero s h = record { short = omega arith; none-zero = λ i k. omega arith; small = bytes-nil }
+name-fair (suc n) [] h = record { short = omega arith; none-zero = λ i k. omega arith; small = bytes-nil }
+name-fair (suc n) (zero ∷ s) h = record { short = omega arith; none-zero = λ i k. omega arith; small = bytes-nil }
+name-fair (suc n) (suc b ∷ s) h = longer (name-fair n s (λ j. h (suc j)))
+  where
+    longer : {t : List ℕ} → Name n t → Name (suc n) (suc b ∷ t)
+    longer {t} k = record { short = omega (arith, k .short); none-zero = more; small = most }
+      where
+        more : (i : ℕ) → i < length (suc b ∷ t) → 0 < getD (suc b ∷ t) i 0
+        more zero l = omega arith
+        more (suc i) l = k .none-zero i (omega arith)
+
+        most : Bytes (suc b ∷ t)
+        most zero = h 0
+        most (suc i) = k .small i
+
+pub raw-fair : (n : ℕ) (s : List ℕ) → Bytes s → n ≤ length s → Raw n (take n s)
+raw-fair n s h l = record { long = lib.Seq.length-take-le n s l; small = bytes-take n s h }
+
+pub inverted-back : (b : Bool) → is-zero (inverted-byte b) ≡ b
+unfolding is-zero inverted-byte
+inverted-back true = refl
+inverted-back false = refl
+
+pub flag-back : (b : Bool) → is-set (flag-byte b) ≡ b
+unfolding is-set flag-byte
+flag-back true = refl
+flag-back false = refl

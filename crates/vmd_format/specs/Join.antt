@@ -1,0 +1,47 @@
+-- Export and joining: document 01, "Export" and "Joining". Definitions only.
+use Prim.Native.Nat.{ℕ, _+_}
+use mathlib.Core.Bool.{Bool, _&&_}
+use mathlib.Core.List.{List, [], _∷_, _++_}
+use lib.ListN.{length}
+use lib.Dec.{leb}
+use Rattle.vmd_format.specs.Refusal.{count-too-large}
+use Rattle.vmd_format.specs.Answer.{Answer, declined, given, and-then, map-answer, unless}
+use Rattle.vmd_format.specs.Read.{Manner}
+use Rattle.vmd_format.specs.Take.{Take, read-take, write-take}
+
+-- "`export_vmd_animation` over the parsed file"
+unfoldable pub export-file : Manner → List ℕ → Answer (List ℕ)
+export-file m s = map-answer write-take (read-take m s)
+
+-- "The joined model name is the first file's where that is not empty, else the second's."
+unfoldable pub joined-model : List ℕ → List ℕ → List ℕ
+joined-model [] n = n
+joined-model (b ∷ m) n = b ∷ m
+
+-- "the take whose every section is the first file's records, then the second's"
+unfoldable pub join : Take → Take → Take
+join t u = record {
+  model = joined-model (t .model) (u .model);
+  bones = t .bones ++ u .bones;
+  morphs = t .morphs ++ u .morphs;
+  cameras = t .cameras ++ u .cameras;
+  lights = t .lights ++ u .lights;
+  self-shadows = t .self-shadows ++ u .self-shadows;
+  properties = t .properties ++ u .properties;
+}
+
+-- "each of the six sums of their numbers of records is at most 4,294,967,295"
+unfoldable pub fits-u32 : {A : Type 0} → List A → List A → Bool
+fits-u32 l m = leb (length l + length m) 4294967295
+
+unfoldable pub fit-together : Take → Take → Bool
+fit-together t u =
+    fits-u32 (t .bones) (u .bones) && fits-u32 (t .morphs) (u .morphs) && fits-u32 (t .cameras) (u .cameras)
+    && fits-u32 (t .lights) (u .lights) && fits-u32 (t .self-shadows) (u .self-shadows) && fits-u32 (t .properties) (u .properties)
+
+unfoldable pub join-takes : Take → Take → Answer (List ℕ)
+join-takes t u = unless (fit-together t u) count-too-large (given (write-take (join t u)))
+
+-- "Joining: first file, second file, 11, 13."
+unfoldable pub join-files : Manner → List ℕ → List ℕ → Answer (List ℕ)
+join-files m a b = and-then (read-take m a) λ t. and-then (read-take m b) λ u. join-takes t u

@@ -1,0 +1,97 @@
+-- What opening a file gives: document 01, "Opening". Definitions only.
+use Prim.Native.Nat.{ℕ, _+_, _*_, _-_, max}
+use mathlib.Core.Bool.{Bool, true, false}
+use mathlib.Core.List.{List, [], _∷_, _++_}
+use lib.ListN.{length, drop}
+use lib.Dec.{leb}
+use Rattle.vmd_format.specs.Refusal.{scratch-too-short}
+use Rattle.vmd_format.specs.Answer.{Answer, declined, given, unless}
+use Rattle.vmd_format.specs.Records.{Property}
+use Rattle.vmd_format.specs.Read.{Step, refused, got, Section, Manner}
+use Rattle.vmd_format.specs.Take.{Take, File, take-of, read-file}
+
+-- "k IK states over all of them"
+unfoldable pub ik-total : List Property → ℕ
+ik-total [] = 0
+ik-total (p ∷ l) = length (p .ik-states) + ik-total l
+
+-- the largest of the frames of a list of records, 0 with none
+unfoldable pub largest : {A : Type 0} → (A → ℕ) → List A → ℕ
+largest frame [] = 0
+largest frame (a ∷ l) = max (frame a) (largest frame l)
+
+-- "The largest frame is over all six sections, 0 with no records."
+unfoldable pub largest-frame : Take → ℕ
+largest-frame t =
+    max (largest (λ b. b .frame) (t .bones))
+    (max (largest (λ m. m .frame) (t .morphs))
+    (max (largest (λ c. c .frame) (t .cameras))
+    (max (largest (λ l. l .frame) (t .lights))
+    (max (largest (λ s. s .frame) (t .self-shadows))
+    (largest (λ p. p .frame) (t .properties))))))
+
+-- "the byte position of each property frame": a frame is 9 bytes and 21 for each of its IK states
+unfoldable pub positions : ℕ → List Property → List ℕ
+positions at [] = []
+positions at (p ∷ l) = at ∷ positions (at + 9 + 21 * length (p .ik-states)) l
+
+-- how many records a section has, and its place (document 01's term)
+pub record Part : Type 0 where
+  pub count : ℕ
+  pub place : ℕ
+
+-- "six counts, the number of IK states .. and section places"
+pub record Scan : Type 0 where
+  pub bones : Part
+  pub morphs : Part
+  pub cameras : Part
+  pub lights : Part
+  pub self-shadows : Part
+  pub properties : Part
+  pub ik-states : ℕ
+
+-- an opening (document 01's term)
+pub record Opening : Type 0 where
+  pub scan : Scan
+  pub largest-frame : ℕ
+
+-- "A section's place is just after its count, or the file's length where the count is missing or the section was emptied."
+unfoldable pub part-of : {A : Type 0} → List ℕ → Section A → Part
+part-of s x = record { count = length (x .items); place = length s - length (x .start) }
+
+unfoldable pub scan-of : List ℕ → File → Scan
+scan-of s f = record {
+  bones = part-of s (f .bones);
+  morphs = part-of s (f .morphs);
+  cameras = part-of s (f .cameras);
+  lights = part-of s (f .lights);
+  self-shadows = part-of s (f .self-shadows);
+  properties = part-of s (f .properties);
+  ik-states = ik-total (f .properties .items);
+}
+
+unfoldable pub opening-of : List ℕ → File → Opening
+opening-of s f = record { scan = scan-of s f; largest-frame = largest-frame (take-of f) }
+
+-- "scratch has fewer places than property frames: 3"; "Opening: 1 and 2 as met, then 3."
+unfoldable pub opened : List ℕ → ℕ → Step File → Answer Opening
+opened s places (refused k) = declined k
+opened s places (got f r) = unless (leb (length (f .properties .items)) places) scratch-too-short (given (opening-of s f))
+
+unfoldable pub open-file : Manner → List ℕ → ℕ → Answer Opening
+open-file m s places = opened s places (read-file m s)
+
+-- "A lent scratch of 64-bit numbers receives the byte position of each property frame, first places first; further places
+-- keep their contents"; a refusal leaves all of it.
+unfoldable pub scratch-if : Bool → List ℕ → List ℕ → List ℕ
+scratch-if true p scratch = p ++ drop (length p) scratch
+scratch-if false p scratch = scratch
+
+unfoldable pub scratch-of : List ℕ → List ℕ → Step File → List ℕ
+scratch-of s scratch (refused k) = scratch
+scratch-of s scratch (got f r) =
+    scratch-if (leb (length (f .properties .items)) (length scratch))
+    (positions (part-of s (f .properties) .place) (f .properties .items)) scratch
+
+unfoldable pub scratch-after : Manner → List ℕ → List ℕ → List ℕ
+scratch-after m s scratch = scratch-of s scratch (read-file m s)

@@ -1,0 +1,117 @@
+-- Opening by places is opening: counts, places, IK total, largest frame, and the scratch.
+use Prim.Native.Nat.{ℕ, zero, suc, _+_, _*_, _-_, _≤_, _<_, max}
+use mathlib.Core.Path.{_≡_, refl, ap, ap₂, sym, _∙_, subst}
+use mathlib.Core.Bool.{Bool, true, false}
+use mathlib.Core.List.{List, [], _∷_}
+use native.Mathlib.Omega.{arith}
+use lib.ListN.{length, getD, take, drop, length-drop}
+use lib.Seq.{drop-drop}
+use lib.Dec.{leb}
+use borrow.Author.Tests.{le-leb}
+use Rattle.vmd_format.specs.Bytes.{u32}
+use Rattle.vmd_format.specs.Layout.{Layout, number, byte, flag, inverted, name, raw, _⊗_, as-record}
+use Rattle.vmd_format.specs.Refusal.{Refusal, scratch-too-short}
+use Rattle.vmd_format.specs.Answer.{Answer, declined, given, and-then, unless}
+use Rattle.vmd_format.specs.Records.{Bone, Morph, Camera, Light, SelfShadow, Property, bone, morph, camera, light, self-shadow, ik-state}
+use Rattle.vmd_format.specs.Read.{Step, refused, got, table, Manner}
+use Rattle.vmd_format.specs.Take.{Take, File, take-of, read-file, answer, read-take}
+use Rattle.vmd_format.specs.Opening.{ik-total, largest, largest-frame, positions, Part, Scan, Opening, part-of, scan-of, opening-of, opened, open-file, scratch-if, scratch-of, scratch-after}
+use Rattle.vmd_format.specs.Fetch.{model-of}
+use Rattle.vmd_format.specs.Places.{scan-file, largest-of, next-frame, largest-frame-of, frame-places, part-largest, scan-largest, open-scan, scan-scratch}
+use Rattle.vmd_format.specs.PlacesLaws.{table-length, section-in, property-in, frames-in}
+use Rattle.vmd_format.specs.ScanLaws.{file-in, Inside, Agrees, Matches, file-agrees}
+
+-- the largest frame of back-to-back records
+largest-table : {A : Type 0} (K : Layout A) (frame : A → ℕ) (offset : ℕ) → ((s : List ℕ) → frame (K .decode s) ≡ u32 (drop offset s))
+    → (n : ℕ) (s : List ℕ) → largest frame (table K n s) ≡ largest-of offset (K .size) n s
+unfolding largest table largest-of
+largest-table K frame offset h zero s = refl
+largest-table K frame offset h (suc n) s = ap₂ max (h s) (largest-table K frame offset h n (drop (K .size) s))
+
+largest-frames : (s : List ℕ) (n at : ℕ) → largest (λ p. p .frame) (frames-in s n at) ≡ largest-frame-of s n at
+unfolding largest frames-in property-in largest-frame-of
+largest-frames s zero at = refl
+largest-frames s (suc n) at = ap (max (u32 (drop at s))) (largest-frames s n (next-frame s at))
+
+pub file-largest : (model s : List ℕ) (x : Scan) → largest-frame (take-of (file-in model s x)) ≡ scan-largest s x
+unfolding largest-frame take-of file-in section-in scan-largest part-largest bone morph camera light self-shadow as-record _⊗_ name number raw byte inverted
+file-largest model s x =
+    ap₂ max (largest-table bone (λ b. b .frame) 15 (λ t. refl) (x .bones .count) (drop (x .bones .place) s))
+    (ap₂ max (largest-table morph (λ m. m .frame) 15 (λ t. refl) (x .morphs .count) (drop (x .morphs .place) s))
+    (ap₂ max (largest-table camera (λ c. c .frame) 0 (λ t. refl) (x .cameras .count) (drop (x .cameras .place) s))
+    (ap₂ max (largest-table light (λ l. l .frame) 0 (λ t. refl) (x .lights .count) (drop (x .lights .place) s))
+    (ap₂ max (largest-table self-shadow (λ d. d .frame) 0 (λ t. refl) (x .self-shadows .count) (drop (x .self-shadows .place) s))
+    (largest-frames s (x .properties .count) (x .properties .place))))))
+
+-- the positions of the frames of these places
+pub positions-places : (s : List ℕ) (n at : ℕ) → positions at (frames-in s n at) ≡ frame-places s n at
+unfolding positions frames-in frame-places property-in next-frame
+positions-places s zero at = refl
+positions-places s (suc n) at =
+    let k = u32 (drop (at + 5) s) in
+    let e : at + 9 + 21 * length (table ik-state k (drop (at + 9) s)) ≡ at + 9 + k * 21 = rw (table-length ik-state k (drop (at + 9) s)) (omega arith) in
+    rw e (ap {B = List ℕ} (λ r. at ∷ r) (positions-places s n (at + 9 + k * 21)))
+
+module _ {s : List ℕ} {f : File} {x : Scan} (a : Agrees s f x) where
+  pub agreed-count : length (f .properties .items) ≡ x .properties .count
+  unfolding scan-of part-of
+  agreed-count = ap (λ y. y .properties .count) (a .scan)
+
+  pub agreed-place : part-of s (f .properties) .place ≡ x .properties .place
+  unfolding scan-of
+  agreed-place = ap (λ y. y .properties .place) (a .scan)
+
+  pub agreed-frames : f .properties .items ≡ frames-in s (x .properties .count) (x .properties .place)
+  unfolding file-in
+  agreed-frames = ap (λ g. g .properties .items) (a .file)
+
+  pub agreed-total : x .ik-states ≡ ik-total (frames-in s (x .properties .count) (x .properties .place))
+  unfolding scan-of
+  agreed-total = sym (ap (λ y. y .ik-states) (a .scan)) ∙ ap ik-total agreed-frames
+
+  pub agreed-largest : largest-frame (take-of f) ≡ scan-largest s x
+  agreed-largest = ap (λ g. largest-frame (take-of g)) (a .file) ∙ file-largest (f .model) s x
+
+-- what opening answers, by places
+pub open-by-places : (m : Manner) (s : List ℕ) (places : ℕ) → open-file m s places ≡ and-then (scan-file m s) (open-scan s places)
+unfolding open-file opened and-then open-scan opening-of
+open-by-places m s places = go (read-file m s) (scan-file m s) (file-agrees m s)
+  where
+    go : (x : Step File) (y : Answer Scan) → Matches s (model-of s) x y → opened s places x ≡ and-then y (open-scan s places)
+    go (refused k) (declined j) a = ap declined a
+    go (refused k) (given x) a = absurd a
+    go (got f r) (declined j) a = absurd a
+    go (got f r) (given x) a = rw (agreed-count (a .1), agreed-largest (a .1), a .1 .scan)
+
+-- the scratch at exit, by places
+pub scratch-by-places : (m : Manner) (s scratch : List ℕ) → scratch-after m s scratch ≡ scan-scratch s scratch (scan-file m s)
+unfolding scratch-after scratch-of scan-scratch
+scratch-by-places m s scratch = go (read-file m s) (scan-file m s) (file-agrees m s)
+  where
+    go : (x : Step File) (y : Answer Scan) → Matches s (model-of s) x y → scratch-of s scratch x ≡ scan-scratch s scratch y
+    go (refused k) (declined j) a = refl
+    go (refused k) (given x) a = absurd a
+    go (got f r) (declined j) a = absurd a
+    go (got f r) (given x) a =
+        rw (agreed-count (a .1), agreed-place (a .1), agreed-frames (a .1), positions-places s (x .properties .count) (x .properties .place))
+
+-- a file that reads as a take opens with scratch enough, and one that opens reads as a take
+pub take-opens : (m : Manner) (s : List ℕ) (t : Take) (places : ℕ) → read-take m s ≡ given t → length (t .properties) ≤ places
+    → (o : Opening) × (open-file m s places ≡ given o)
+unfolding read-take answer take-of open-file opened unless
+take-opens m s t places r h = go (read-file m s) r
+  where
+    go : (x : Step File) → answer x ≡ given t → (o : Opening) × (opened s places x ≡ given o)
+    go (refused k) e = let z : _≡_ {A = ℕ} 0 1 = cc in absurd (omega arith)
+    go (got f u) e =
+        let q : take-of f ≡ t = cc in
+        let n : length (f .properties .items) ≤ places = subst (λ v. length (v .properties) ≤ places) (sym q) h in
+        (opening-of s f, rw (le-leb (length (f .properties .items)) places n))
+
+pub opened-reads : (m : Manner) (s : List ℕ) (o : Opening) (places : ℕ) → open-file m s places ≡ given o → (t : Take) × (read-take m s ≡ given t)
+unfolding read-take answer open-file opened
+opened-reads m s o places h = go (read-file m s) h
+  where
+    go : (x : Step File) → opened s places x ≡ given o → (t : Take) × (answer x ≡ given t)
+    go (refused k) e = let z : _≡_ {A = ℕ} 0 1 = cc in absurd (omega arith)
+    go (got f u) e = (take-of f, refl)

@@ -1,0 +1,145 @@
+-- Reading a file by places, as code goes: a section's count, the place of its records and the place after them.
+-- PlacesLaws shows that this is the reading of Take and Opening; nothing here has to be believed.
+use Prim.Native.Nat.{ℕ, zero, suc, _+_, _*_, _-_, max}
+use mathlib.Core.Bool.{Bool, true, false}
+use mathlib.Core.List.{List, [], _∷_}
+use lib.ListN.{length, drop}
+use lib.Dec.{leb}
+use Rattle.vmd_format.specs.Bytes.{u32}
+use Rattle.vmd_format.specs.Refusal.{Refusal, file-ends-early, scratch-too-short}
+use Rattle.vmd_format.specs.Answer.{Answer, declined, given, and-then, unless}
+use Rattle.vmd_format.specs.Read.{Step, refused, got, Oversized, refuse, emptied, BytesOver, ignored, turned-down, Manner}
+use Rattle.vmd_format.specs.Take.{header}
+use Rattle.vmd_format.specs.Opening.{Part, Scan, Opening, scratch-if}
+
+-- where the sections begin
+unfoldable pub place-after : List ℕ → Step (List ℕ) → Answer ℕ
+place-after s (refused k) = declined k
+place-after s (got n r) = given (length s - length r)
+
+unfoldable pub header-place : List ℕ → Answer ℕ
+header-place s = place-after s (header s)
+
+-- a section: its records' number, their place and the place after them
+pub record Span : Type 0 where
+  pub count : ℕ
+  pub place : ℕ
+  pub next : ℕ
+
+unfoldable pub part-in : Span → Part
+part-in x = record { count = x .count; place = x .place }
+
+unfoldable pub no-span : List ℕ → Span
+no-span s = record { count = 0; place = length s; next = length s }
+
+unfoldable pub over-span : Oversized → List ℕ → Answer Span
+over-span (refuse k) s = declined k
+over-span emptied s = given (no-span s)
+
+unfoldable pub records-span : Bool → Oversized → ℕ → List ℕ → ℕ → Answer Span
+records-span true o size s at = given (record { count = u32 (drop at s); place = at + 4; next = at + 4 + u32 (drop at s) * size })
+records-span false o size s at = over-span o s
+
+unfoldable pub count-span : Bool → Oversized → ℕ → List ℕ → ℕ → Answer Span
+count-span true o size s at = records-span (leb (u32 (drop at s) * size) (length s - (at + 4))) o size s at
+count-span false o size s at = declined file-ends-early
+
+-- the section whose count is at a place
+unfoldable pub span : Oversized → ℕ → List ℕ → ℕ → Answer Span
+span o size s at = count-span (leb (at + 4) (length s)) o size s at
+
+unfoldable pub optional-if : Bool → Oversized → ℕ → List ℕ → ℕ → Answer Span
+optional-if true o size s at = given (no-span s)
+optional-if false o size s at = span o size s at
+
+-- the same where the file may end before the count
+unfoldable pub optional-span : Oversized → ℕ → List ℕ → ℕ → Answer Span
+optional-span o size s at = optional-if (leb (length s) at) o size s at
+
+-- ---- property frames, one after another
+
+-- where the last frame ends, and how many IK states all of them have
+pub record Walk : Type 0 where
+  pub next : ℕ
+  pub ik-states : ℕ
+
+-- over the frame at a place, and then on
+unfoldable pub walk-on : Bool → Answer Span → (ℕ → ℕ → Answer Walk) → ℕ → Answer Walk
+walk-on true (declined k) go total = declined k
+walk-on true (given x) go total = go (x .next) (total + x .count)
+walk-on false x go total = declined file-ends-early
+
+unfoldable pub walk : List ℕ → ℕ → ℕ → ℕ → Answer Walk
+walk s zero at total = given (record { next = at; ik-states = total })
+walk s (suc n) at total =
+    walk-on (leb (at + 5) (length s)) (span (refuse file-ends-early) 21 s (at + 5)) (walk s n) total
+
+-- ---- the whole file
+
+-- the bytes over
+unfoldable pub over-if : {A : Type 0} → Bool → BytesOver → A → Answer A
+over-if true o a = given a
+over-if false ignored a = given a
+over-if false (turned-down k) a = declined k
+
+unfoldable pub scan-sections : Manner → List ℕ → ℕ → Answer Scan
+scan-sections m s at =
+    and-then (span (refuse file-ends-early) 111 s at) λ b.
+    and-then (optional-span (refuse file-ends-early) 23 s (b .next)) λ f.
+    and-then (optional-span (m .oversized) 61 s (f .next)) λ c.
+    and-then (optional-span (m .oversized) 28 s (c .next)) λ l.
+    and-then (optional-span (m .oversized) 9 s (l .next)) λ d.
+    and-then (optional-span (refuse file-ends-early) 9 s (d .next)) λ p.
+    and-then (walk s (p .count) (p .place) 0) λ w.
+    over-if (leb (length s) (w .next)) (m .over) (record {
+      bones = part-in b;
+      morphs = part-in f;
+      cameras = part-in c;
+      lights = part-in l;
+      self-shadows = part-in d;
+      properties = part-in p;
+      ik-states = w .ik-states;
+    })
+
+unfoldable pub scan-file : Manner → List ℕ → Answer Scan
+scan-file m s = and-then (header-place s) (scan-sections m s)
+
+-- ---- the largest frame and the frames' places
+
+-- the largest of n records' frames, a number so many bytes into each
+unfoldable pub largest-of : ℕ → ℕ → ℕ → List ℕ → ℕ
+largest-of offset size zero s = 0
+largest-of offset size (suc n) s = max (u32 (drop offset s)) (largest-of offset size n (drop size s))
+
+unfoldable pub next-frame : List ℕ → ℕ → ℕ
+next-frame s at = at + 9 + u32 (drop (at + 5) s) * 21
+
+unfoldable pub largest-frame-of : List ℕ → ℕ → ℕ → ℕ
+largest-frame-of s zero at = 0
+largest-frame-of s (suc n) at = max (u32 (drop at s)) (largest-frame-of s n (next-frame s at))
+
+unfoldable pub frame-places : List ℕ → ℕ → ℕ → List ℕ
+frame-places s zero at = []
+frame-places s (suc n) at = at ∷ frame-places s n (next-frame s at)
+
+-- the largest frame of a part, and of a whole file
+unfoldable pub part-largest : ℕ → ℕ → List ℕ → Part → ℕ
+part-largest offset size s p = largest-of offset size (p .count) (drop (p .place) s)
+
+unfoldable pub scan-largest : List ℕ → Scan → ℕ
+scan-largest s x =
+    max (part-largest 15 111 s (x .bones))
+    (max (part-largest 15 23 s (x .morphs))
+    (max (part-largest 0 61 s (x .cameras))
+    (max (part-largest 0 28 s (x .lights))
+    (max (part-largest 0 9 s (x .self-shadows))
+    (largest-frame-of s (x .properties .count) (x .properties .place))))))
+
+-- opening, and the scratch after it
+unfoldable pub open-scan : List ℕ → ℕ → Scan → Answer Opening
+open-scan s places x = unless (leb (x .properties .count) places) scratch-too-short (given (record { scan = x; largest-frame = scan-largest s x }))
+
+unfoldable pub scan-scratch : List ℕ → List ℕ → Answer Scan → List ℕ
+scan-scratch s scratch (declined k) = scratch
+scan-scratch s scratch (given x) =
+    scratch-if (leb (x .properties .count) (length scratch)) (frame-places s (x .properties .count) (x .properties .place)) scratch

@@ -1,0 +1,45 @@
+-- The refusals of document 01, "What is turned down", and their numbers. Definitions only.
+use Prim.Native.Nat.{ℕ}
+
+pub data Refusal : Type 0 where
+  -- file ends early
+  file-ends-early : Refusal
+  -- magic differs
+  magic-differs : Refusal
+  -- scratch has fewer places than property frames
+  scratch-too-short : Refusal
+  -- record or IK number at or above the count, or its place outside the file
+  outside : Refusal
+  -- name table ends wrong, record bytes no whole number of records, properties cut or with bytes over
+  parts-not-whole : Refusal
+  -- model name over 20 bytes, table name over 15, or a zero byte in one
+  name-unfit : Refusal
+  -- name bytes not good
+  name-not-good : Refusal
+  -- camera, light, bone or morph float not finite
+  not-finite : Refusal
+  -- self-shadow distance not finite, or mode above 2
+  self-shadow-unfit : Refusal
+  -- bone or morph column lengths disagree
+  columns-disagree : Refusal
+  -- a section count above 4,294,967,295
+  count-too-large : Refusal
+  -- name index at or above the table's length
+  name-index-too-large : Refusal
+  -- output shorter than the export
+  output-too-short : Refusal
+
+abbrev pub number : Refusal → ℕ
+number file-ends-early = 1
+number magic-differs = 2
+number scratch-too-short = 3
+number outside = 4
+number parts-not-whole = 5
+number name-unfit = 6
+number name-not-good = 7
+number not-finite = 8
+number self-shadow-unfit = 9
+number columns-disagree = 10
+number count-too-large = 11
+number name-index-too-large = 12
+number output-too-short = 13

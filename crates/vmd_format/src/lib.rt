@@ -1,0 +1,1 @@
+// The VMD format: definitions and laws in specs/, no code.
