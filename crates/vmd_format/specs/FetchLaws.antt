@@ -61,7 +61,7 @@ frames-at s zero at i d h = absurd (omega arith)
 frames-at s (suc n) at zero d h = refl
 frames-at s (suc n) at (suc i) d h = frames-at s n (next-frame s at) i d (omega arith)
 
-places-length : (s : List ℕ) (n at : ℕ) → length (frame-places s n at) ≡ n
+pub places-length : (s : List ℕ) (n at : ℕ) → length (frame-places s n at) ≡ n
 unfolding frame-places
 places-length s zero at = refl
 places-length s (suc n) at = ap suc (places-length s n (next-frame s at))

@@ -1,6 +1,6 @@
 -- Reading a file by places, as code goes: a section's count, the place of its records and the place after them.
 -- PlacesLaws shows that this is the reading of Take and Opening; nothing here has to be believed.
-use Prim.Native.Nat.{ℕ, zero, suc, _+_, _*_, _-_, max}
+use Prim.Native.Nat.{ℕ, zero, suc, _+_, _*_, _-_, _≤_, max}
 use mathlib.Core.Bool.{Bool, true, false}
 use mathlib.Core.List.{List, [], _∷_}
 use lib.ListN.{length, drop}
@@ -113,6 +113,11 @@ largest-of offset size (suc n) s = max (u32 (drop offset s)) (largest-of offset 
 
 unfoldable pub next-frame : List ℕ → ℕ → ℕ
 next-frame s at = at + 9 + u32 (drop (at + 5) s) * 21
+
+-- each of n frames from a place on lies in the file, with its IK states
+unfoldable pub Reaches : List ℕ → ℕ → ℕ → Type 0
+Reaches s zero at = Unit {0}
+Reaches s (suc n) at = (next-frame s at ≤ length s) × Reaches s n (next-frame s at)
 
 unfoldable pub largest-frame-of : List ℕ → ℕ → ℕ → ℕ
 largest-frame-of s zero at = 0

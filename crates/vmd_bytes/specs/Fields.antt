@@ -1,0 +1,18 @@
+-- A name field that is written piece by piece. Definitions only.
+use Prim.Native.Nat.{ℕ, zero, suc}
+use mathlib.Core.Bool.{Bool, true, false}
+use mathlib.Core.List.{List, [], _∷_}
+use lib.ListN.{length, replicate}
+use Rattle.vmd_format.specs.Bytes.{before-zero, padded}
+
+-- whether no byte is zero
+unfoldable pub no-zero : List ℕ → Bool
+no-zero [] = true
+no-zero (zero ∷ l) = false
+no-zero (suc b ∷ l) = no-zero l
+
+-- The canonical bytes of a piece of a name field: while the name goes on, those before the first zero and then zeros; after
+-- its end, zeros.
+unfoldable pub canonical : Bool → List ℕ → List ℕ
+canonical true l = padded (length l) (before-zero l)
+canonical false l = replicate (length l) 0

@@ -1,0 +1,27 @@
+-- `vmd_reader::open_sections` meets its contract. Assumes nothing.
+use Prim.Native.Nat.{_+_, _≤_}
+use mathlib.Core.Path.{_≡_, refl, sym, ap, _∙_}
+use native.Mathlib.Omega.{arith}
+use borrow.Author.Needs.{needs}
+use Rattle.vmd_scan.proofs.Laws.{inside-reaches}
+use Rattle.vmd_reader.proofs.Laws.{opens, opens-not, fills, fills-not}
+use Rattle.vmd_reader.proofs.open_sections.Statement.{statement}
+use Rattle.vmd_reader.proofs.open_sections.Tie as tie
+
+returns : tie.Need-returns
+returns c = (opens-not _ _ _ (c .if1 .taken), fills-not _ _ _ (c .if1 .taken))
+
+write-frame-places-requires : tie.Need-write-frame-places-requires
+write-frame-places-requires c κs = (omega arith, inside-reaches _ _ (c .before .before .before .before .before .before .before .pre))
+
+returns-2 : tie.Need-returns-2
+returns-2 c =
+    let w = c .before .before in
+    let m = w .before .before in (
+      opens _ _ _ _ (m .before .if1 .left) (m .max-frame .ensures),
+      fills _ _ _ _ (m .before .if1 .left) (w .write-frame-places .ensures),
+    )
+
+pub open-sections-spec : {M : Type 1} → statement M
+open-sections-spec =
+    tie.close (tie.spec (λ c. search needs) returns (λ c κs. search needs) write-frame-places-requires (λ c. search needs) returns-2)

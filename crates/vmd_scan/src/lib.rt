@@ -1,0 +1,608 @@
+// Finding the sections of a file by places: the cursor, the header, the section counts and the property frames. Internal:
+// callers see to the lengths where a contract asks it.
+use vmd_records::VmdParsedBoneFrame;
+use vmd_records::VmdParsedCameraFrame;
+use vmd_records::VmdParsedIkState;
+use vmd_records::VmdParsedLightFrame;
+use vmd_records::VmdParsedMorphFrame;
+use vmd_records::VmdParsedPropertyFrame;
+use vmd_records::VmdParsedSelfShadowFrame;
+ghost use mathlib.Core.Path.{_≡_};
+ghost use mathlib.Core.List.{_++_};
+ghost use Prim.Native.Nat.{_+_, _*_, _-_, _≤_};
+ghost use lib.Dec.{leb};
+ghost use lib.ListN.{length, drop};
+ghost use Rattle.vmd_format.specs.Refusal.{number};
+ghost use Rattle.vmd_format.specs.Answer.{given};
+ghost use Rattle.vmd_format.specs.Read.{lenient};
+ghost use Rattle.vmd_format.specs.Places.{header-place, no-span, over-span, span, optional-span, walk, over-if, scan-sections, scan-file, part-largest, next-frame, largest-frame-of, frame-places, scan-largest, Reaches};
+ghost use Rattle.vmd_format.specs.ScanLaws.{Inside};
+ghost use Rattle.vmd_scan.specs.Stages.{read-number, optional-number, counted-span, scan-front, scan-back, scan-parts, scan-end, back-largest};
+ghost use Rattle.vmd_scan.specs.Meaning.{refusal-of, part-is, oversized-of, over-of, manner-of, scan-is, place-answer, number-answer, optional-answer, span-answer, walk-answer, front-is, back-is, front-answer, back-answer, scan-answer};
+
+// ---- sizes, in bytes
+
+// The magic as it is written, with its five zero bytes.
+pub const MAGIC_SIZE: usize = 30;
+
+// The magic as it is compared, with the first of them.
+const MAGIC_COMPARED: usize = 26;
+
+// The magic and the model name.
+pub const HEADER_SIZE: usize = 50;
+
+const BONE_SIZE: usize = VmdParsedBoneFrame::SIZE;
+
+const MORPH_SIZE: usize = VmdParsedMorphFrame::SIZE;
+
+const CAMERA_SIZE: usize = VmdParsedCameraFrame::SIZE;
+
+const LIGHT_SIZE: usize = VmdParsedLightFrame::SIZE;
+
+const SELF_SHADOW_SIZE: usize = VmdParsedSelfShadowFrame::SIZE;
+
+// A property frame without its IK states.
+const PROPERTY_SIZE: usize = VmdParsedPropertyFrame::SIZE;
+
+const IK_STATE_SIZE: usize = VmdParsedIkState::SIZE;
+
+// Where a bone or a morph record has its frame, after its name. Every other record begins with it.
+pub const NAMED_FRAME_OFFSET: usize = 15;
+
+// Where a property frame has the count of its IK states, after its frame and its flag.
+pub const IK_COUNT_OFFSET: usize = 5;
+
+// ---- types
+
+// What is turned down: the table of refusals.
+pub enum VmdRefusal {
+    FileEndsEarly,
+    MagicDiffers,
+    ScratchTooShort,
+    Outside,
+    PartsNotWhole,
+    NameUnfit,
+    NameNotGood,
+    NotFinite,
+    SelfShadowUnfit,
+    ColumnsDisagree,
+    CountTooLarge,
+    NameIndexTooLarge,
+    OutputTooShort,
+}
+
+impl VmdRefusal {
+    pub fn number(self) -> u32
+        ensures { λ r. ⌜ r ≡ number (refusal-of self) ⌝ }
+    {
+        match self {
+            VmdRefusal::FileEndsEarly => 1,
+            VmdRefusal::MagicDiffers => 2,
+            VmdRefusal::ScratchTooShort => 3,
+            VmdRefusal::Outside => 4,
+            VmdRefusal::PartsNotWhole => 5,
+            VmdRefusal::NameUnfit => 6,
+            VmdRefusal::NameNotGood => 7,
+            VmdRefusal::NotFinite => 8,
+            VmdRefusal::SelfShadowUnfit => 9,
+            VmdRefusal::ColumnsDisagree => 10,
+            VmdRefusal::CountTooLarge => 11,
+            VmdRefusal::NameIndexTooLarge => 12,
+            VmdRefusal::OutputTooShort => 13,
+        }
+    }
+}
+
+// How many records a section has, and where the first is.
+pub struct VmdSection {
+    pub count: u32,
+    pub place: usize,
+}
+
+pub struct VmdSections {
+    pub bones: VmdSection,
+    pub morphs: VmdSection,
+    pub cameras: VmdSection,
+    pub lights: VmdSection,
+    pub self_shadows: VmdSection,
+    pub properties: VmdSection,
+    pub ik_states: u64,
+}
+
+// What an oversized camera, light or self-shadow count does.
+pub enum Oversized {
+    Refused(VmdRefusal),
+    Emptied,
+}
+
+// What bytes after the last property frame do.
+pub enum BytesOver {
+    Ignored,
+    Refused(VmdRefusal),
+}
+
+// The manner of reading.
+pub struct Manner {
+    pub oversized: Oversized,
+    pub over: BytesOver,
+}
+
+// The position of a reader; the bytes stand beside it.
+pub struct ByteReader {
+    pub pos: usize,
+}
+
+pub enum NumberAnswer {
+    Refused(VmdRefusal),
+    Value(u32, ByteReader),
+}
+
+pub enum OptionalNumber {
+    Refused(VmdRefusal),
+    Nothing,
+    Value(u32, ByteReader),
+}
+
+pub enum SectionAnswer {
+    Refused(VmdRefusal),
+    Found(VmdSection, ByteReader),
+}
+
+pub enum HeaderAnswer {
+    Refused(VmdRefusal),
+    Read(ByteReader),
+}
+
+pub enum WalkAnswer {
+    Refused(VmdRefusal),
+    Walked { next: usize, ik_states: u64 },
+}
+
+pub enum ScanAnswer {
+    Refused(VmdRefusal),
+    Scanned(VmdSections),
+}
+
+// The first three sections, and the reader after them.
+struct FrontSections {
+    bones: VmdSection,
+    morphs: VmdSection,
+    cameras: VmdSection,
+    next: ByteReader,
+}
+
+enum FrontAnswer {
+    Refused(VmdRefusal),
+    Found(FrontSections),
+}
+
+// The last three sections.
+struct BackSections {
+    lights: VmdSection,
+    self_shadows: VmdSection,
+    properties: VmdSection,
+}
+
+enum BackAnswer {
+    Refused(VmdRefusal),
+    Found(BackSections),
+}
+
+// The manner of opening: an oversized count empties its section, and bytes after the last property frame are ignored.
+pub fn lenient() -> Manner
+    ensures { λ r. ⌜ manner-of r ≡ lenient ⌝ }
+{
+    Manner {
+        oversized: Oversized::Emptied,
+        over: BytesOver::Ignored,
+    }
+}
+
+// ---- the cursor
+
+// A section of no records, and the reader at the end.
+fn no_section(file: &[u8]) -> SectionAnswer
+    ensures { λ r. ⌜ span-answer r ≡ given (no-span (now (file .entry))) ⌝ }
+{
+    let end = file.len();
+    SectionAnswer::Found(
+        VmdSection {
+            count: 0,
+            place: end,
+        },
+        ByteReader { pos: end },
+    )
+}
+
+fn oversized_section(file: &[u8], oversized: Oversized) -> SectionAnswer
+    ensures { λ r. ⌜ span-answer r ≡ over-span (oversized-of oversized) (now (file .entry)) ⌝ }
+{
+    match oversized {
+        Oversized::Refused(k) => SectionAnswer::Refused(k),
+        Oversized::Emptied => no_section(file),
+    }
+}
+
+impl ByteReader {
+    pub fn remaining(self, file: &[u8]) -> usize
+        ensures { λ r. ⌜ r ≡ length (now (file .entry)) - self .pos ⌝ }
+    {
+        let pos = self.pos;
+        if file.len() < pos {
+            return 0;
+        }
+        file.len() - pos
+    }
+
+    // Whether so many records of this size are left.
+    pub fn require_record_bytes(self, file: &[u8], count: u32, record_size: usize) -> bool
+        requires { ⌜ record_size ≤ 111 ⌝ }
+        ensures { λ r. ⌜ r ≡ leb (count * record_size) (length (now (file .entry)) - self .pos) ⌝ }
+    {
+        let bytes = (count as usize) * record_size;
+        bytes <= self.remaining(file)
+    }
+
+    pub fn read_u32_le(self, file: &[u8]) -> NumberAnswer
+        ensures { λ r. ⌜ number-answer r ≡ read-number (now (file .entry)) (self .pos) ⌝ }
+    {
+        let pos = self.pos;
+        if self.remaining(file) < 4 {
+            return NumberAnswer::Refused(VmdRefusal::FileEndsEarly);
+        }
+        NumberAnswer::Value(
+            vmd_bytes::read_u32_le(file, pos),
+            ByteReader { pos: pos + 4 },
+        )
+    }
+
+    // The same where the file may have ended before the number.
+    pub fn read_optional_u32_le(self, file: &[u8]) -> OptionalNumber
+        ensures { λ r. ⌜ optional-answer r ≡ optional-number (now (file .entry)) (self .pos) ⌝ }
+    {
+        if self.remaining(file) == 0 {
+            return OptionalNumber::Nothing;
+        }
+        match self.read_u32_le(file) {
+            NumberAnswer::Refused(k) => OptionalNumber::Refused(k),
+            NumberAnswer::Value(n, next) => OptionalNumber::Value(n, next),
+        }
+    }
+
+    // The section whose count has just been read.
+    fn counted_section(
+        self,
+        file: &[u8],
+        count: u32,
+        record_size: usize,
+        oversized: Oversized,
+    ) -> SectionAnswer
+        requires { ⌜ record_size ≤ 111 ⌝ }
+        ensures { λ r. ⌜ span-answer r ≡ counted-span (oversized-of oversized) record_size (now (file .entry)) (record { value = count; next = self .pos }) ⌝ }
+    {
+        let place = self.pos;
+        if self.require_record_bytes(file, count, record_size) {
+            let bytes = (count as usize) * record_size;
+            return SectionAnswer::Found(
+                VmdSection { count, place },
+                ByteReader { pos: place + bytes },
+            );
+        }
+        oversized_section(file, oversized)
+    }
+
+    // A count and its records, which have to be there.
+    pub fn read_record_count(
+        self,
+        file: &[u8],
+        record_size: usize,
+        oversized: Oversized,
+    ) -> SectionAnswer
+        requires { ⌜ record_size ≤ 111 ⌝ }
+        ensures { λ r. ⌜ span-answer r ≡ span (oversized-of oversized) record_size (now (file .entry)) (self .pos) ⌝ }
+    {
+        match self.read_u32_le(file) {
+            NumberAnswer::Refused(k) => SectionAnswer::Refused(k),
+            NumberAnswer::Value(count, next) => next.counted_section(
+                file,
+                count,
+                record_size,
+                oversized,
+            ),
+        }
+    }
+
+    // The same where the file may have ended before the count.
+    pub fn read_optional_record_count(
+        self,
+        file: &[u8],
+        record_size: usize,
+        oversized: Oversized,
+    ) -> SectionAnswer
+        requires { ⌜ record_size ≤ 111 ⌝ }
+        ensures { λ r. ⌜ span-answer r ≡ optional-span (oversized-of oversized) record_size (now (file .entry)) (self .pos) ⌝ }
+    {
+        match self.read_optional_u32_le(file) {
+            OptionalNumber::Refused(k) => SectionAnswer::Refused(k),
+            OptionalNumber::Nothing => no_section(file),
+            OptionalNumber::Value(count, next) => next.counted_section(
+                file,
+                count,
+                record_size,
+                oversized,
+            ),
+        }
+    }
+}
+
+// ---- the header
+
+pub const VMD_MAGIC: [u8; MAGIC_SIZE] = *b"Vocaloid Motion Data 0002\0\0\0\0\0";
+
+// Where the sections begin.
+pub fn read_header(file: &[u8]) -> HeaderAnswer
+    ensures { λ r. ⌜ place-answer r ≡ header-place (now (file .entry)) ⌝ }
+{
+    if file.len() < MAGIC_SIZE {
+        return HeaderAnswer::Refused(VmdRefusal::FileEndsEarly);
+    }
+    if vmd_bytes::same_start(file, &VMD_MAGIC, MAGIC_COMPARED) {
+        if file.len() < HEADER_SIZE {
+            return HeaderAnswer::Refused(VmdRefusal::FileEndsEarly);
+        }
+        return HeaderAnswer::Read(ByteReader { pos: HEADER_SIZE });
+    }
+    HeaderAnswer::Refused(VmdRefusal::MagicDiffers)
+}
+
+// ---- property frames
+
+// Over n property frames from a place on: where they end, and their IK states.
+pub fn walk_property_frames(file: &[u8], place: usize, n: usize) -> WalkAnswer
+    requires { ⌜ place ≤ length (now file) ⌝ }
+    ensures { λ r. ⌜ walk-answer r ≡ walk (now (file .entry)) n place 0 ⌝ }
+{
+    let mut at = place;
+    let mut ik_states: u64 = 0;
+    let mut i = 0;
+    while i < n {
+        if file.len() - at < PROPERTY_SIZE {
+            return WalkAnswer::Refused(VmdRefusal::FileEndsEarly);
+        }
+        let count = vmd_bytes::read_u32_le(file, at + IK_COUNT_OFFSET);
+        let bytes = (count as usize) * IK_STATE_SIZE;
+        if file.len() - at - PROPERTY_SIZE < bytes {
+            return WalkAnswer::Refused(VmdRefusal::FileEndsEarly);
+        }
+        ik_states += count as u64;
+        at = at + PROPERTY_SIZE + bytes;
+        i += 1;
+    }
+    WalkAnswer::Walked {
+        next: at,
+        ik_states,
+    }
+}
+
+// Where the property frame at a place ends, with its IK states.
+pub fn next_property_frame(file: &[u8], at: usize) -> usize
+    requires { ⌜ next-frame (now file) at ≤ length (now file) ⌝ }
+    ensures { λ r. ⌜ r ≡ next-frame (now (file .entry)) at ⌝ }
+{
+    let count = vmd_bytes::read_u32_le(file, at + IK_COUNT_OFFSET);
+    at + PROPERTY_SIZE + (count as usize) * IK_STATE_SIZE
+}
+
+// The position of each of n property frames, into the first places of scratch.
+pub fn write_frame_places(file: &[u8], place: usize, n: usize, scratch: &mut [u64])
+    requires { ⌜ (n ≤ length (now scratch)) × (Reaches (now file) n place) ⌝ }
+    ensures { λ _. ⌜ now (scratch .exit) ≡ frame-places (now (file .entry)) n place ++ drop n (now (scratch .entry)) ⌝ }
+{
+    let mut at = place;
+    let mut i = 0;
+    while i < n {
+        scratch[i] = at as u64;
+        at = next_property_frame(file, at);
+        i += 1;
+    }
+}
+
+// The largest frame of n property frames, 0 with none.
+pub fn largest_property_frame(file: &[u8], place: usize, n: usize) -> u32
+    requires { ⌜ Reaches (now file) n place ⌝ }
+    ensures { λ r. ⌜ r ≡ largest-frame-of (now (file .entry)) n place ⌝ }
+{
+    let mut largest: u32 = 0;
+    let mut at = place;
+    let mut i = 0;
+    while i < n {
+        largest = vmd_bytes::larger(largest, vmd_bytes::read_u32_le(file, at));
+        at = next_property_frame(file, at);
+        i += 1;
+    }
+    largest
+}
+
+// ---- the largest frame
+
+// The largest frame of a section's records, 0 with none: a number `offset` bytes into each.
+pub fn largest_frame(file: &[u8], section: VmdSection, record_size: usize, offset: usize) -> u32
+    requires { ⌜ (section .place + section .count * record_size ≤ length (now file)) × (offset + 4 ≤ record_size) ⌝ }
+    ensures { λ r. ⌜ r ≡ part-largest offset record_size (now (file .entry)) (part-is section) ⌝ }
+{
+    let n = section.count as usize;
+    let mut largest: u32 = 0;
+    let mut at = section.place;
+    let mut i = 0;
+    while i < n {
+        largest = vmd_bytes::larger(largest, vmd_bytes::read_u32_le(file, at + offset));
+        at += record_size;
+        i += 1;
+    }
+    largest
+}
+
+// ---- the whole file
+
+// Bones, morphs and cameras. The bone count has to be there.
+fn scan_front(file: &[u8], start: ByteReader, oversized: Oversized) -> FrontAnswer
+    ensures { λ r. ⌜ front-answer r ≡ scan-front (oversized-of oversized) (now (file .entry)) (start .pos) ⌝ }
+{
+    let refused = Oversized::Refused(VmdRefusal::FileEndsEarly);
+    match start.read_record_count(file, BONE_SIZE, refused) {
+        SectionAnswer::Refused(k) => FrontAnswer::Refused(k),
+        SectionAnswer::Found(bones, p) => match p.read_optional_record_count(
+            file,
+            MORPH_SIZE,
+            refused,
+        ) {
+            SectionAnswer::Refused(k) => FrontAnswer::Refused(k),
+            SectionAnswer::Found(morphs, q) => match q.read_optional_record_count(
+                file,
+                CAMERA_SIZE,
+                oversized,
+            ) {
+                SectionAnswer::Refused(k) => FrontAnswer::Refused(k),
+                SectionAnswer::Found(cameras, r) => FrontAnswer::Found(FrontSections {
+                    bones,
+                    morphs,
+                    cameras,
+                    next: r,
+                }),
+            },
+        },
+    }
+}
+
+// Lights, self-shadows and properties.
+fn scan_back(file: &[u8], start: ByteReader, oversized: Oversized) -> BackAnswer
+    ensures { λ r. ⌜ back-answer r ≡ scan-back (oversized-of oversized) (now (file .entry)) (start .pos) ⌝ }
+{
+    let refused = Oversized::Refused(VmdRefusal::FileEndsEarly);
+    match start.read_optional_record_count(file, LIGHT_SIZE, oversized) {
+        SectionAnswer::Refused(k) => BackAnswer::Refused(k),
+        SectionAnswer::Found(lights, p) => match p.read_optional_record_count(
+            file,
+            SELF_SHADOW_SIZE,
+            oversized,
+        ) {
+            SectionAnswer::Refused(k) => BackAnswer::Refused(k),
+            SectionAnswer::Found(self_shadows, q) => match q.read_optional_record_count(
+                file,
+                PROPERTY_SIZE,
+                refused,
+            ) {
+                SectionAnswer::Refused(k) => BackAnswer::Refused(k),
+                SectionAnswer::Found(properties, _) => BackAnswer::Found(BackSections {
+                    lights,
+                    self_shadows,
+                    properties,
+                }),
+            },
+        },
+    }
+}
+
+// The answer where the last property frame ends at a place.
+fn ended_at(file: &[u8], next: usize, over: BytesOver, sections: VmdSections) -> ScanAnswer
+    ensures { λ r. ⌜ scan-answer r ≡ over-if (leb (length (now (file .entry))) next) (over-of over) (scan-is sections) ⌝ }
+{
+    if file.len() <= next {
+        return ScanAnswer::Scanned(sections);
+    }
+    match over {
+        BytesOver::Ignored => ScanAnswer::Scanned(sections),
+        BytesOver::Refused(k) => ScanAnswer::Refused(k),
+    }
+}
+
+fn all_sections(front: FrontSections, back: BackSections, ik_states: u64) -> VmdSections
+    ensures { λ r. ⌜ scan-is r ≡ scan-parts (front-is front) (back-is back) «ik_states» ⌝ }
+{
+    let bones = front.bones;
+    let morphs = front.morphs;
+    let cameras = front.cameras;
+    let lights = back.lights;
+    let self_shadows = back.self_shadows;
+    let properties = back.properties;
+    VmdSections {
+        bones,
+        morphs,
+        cameras,
+        lights,
+        self_shadows,
+        properties,
+        ik_states,
+    }
+}
+
+// The property frames and the bytes after them.
+fn scan_end(file: &[u8], over: BytesOver, front: FrontSections, back: BackSections) -> ScanAnswer
+    requires { ⌜ back .properties .place ≤ length (now file) ⌝ }
+    ensures { λ r. ⌜ scan-answer r ≡ scan-end (over-of over) (now (file .entry)) (front-is front) (back-is back) ⌝ }
+{
+    let properties = back.properties;
+    let place = properties.place;
+    match walk_property_frames(file, place, properties.count as usize) {
+        WalkAnswer::Refused(k) => ScanAnswer::Refused(k),
+        WalkAnswer::Walked { next, ik_states } => ended_at(
+            file,
+            next,
+            over,
+            all_sections(front, back, ik_states),
+        ),
+    }
+}
+
+// The counts and places of all six sections, from the place where they begin.
+pub fn scan_sections(file: &[u8], start: ByteReader, manner: Manner) -> ScanAnswer
+    requires { ⌜ start .pos ≤ length (now file) ⌝ }
+    ensures { λ r. ⌜ scan-answer r ≡ scan-sections (manner-of manner) (now (file .entry)) (start .pos) ⌝ }
+{
+    let oversized = manner.oversized;
+    let over = manner.over;
+    match scan_front(file, start, oversized) {
+        FrontAnswer::Refused(k) => ScanAnswer::Refused(k),
+        FrontAnswer::Found(front) => match scan_back(file, front.next, oversized) {
+            BackAnswer::Refused(k) => ScanAnswer::Refused(k),
+            BackAnswer::Found(back) => scan_end(file, over, front, back),
+        },
+    }
+}
+
+// The counts and places of a whole file.
+pub fn scan_file(file: &[u8], manner: Manner) -> ScanAnswer
+    ensures { λ r. ⌜ scan-answer r ≡ scan-file (manner-of manner) (now (file .entry)) ⌝ }
+{
+    match read_header(file) {
+        HeaderAnswer::Refused(k) => ScanAnswer::Refused(k),
+        HeaderAnswer::Read(start) => scan_sections(file, start, manner),
+    }
+}
+
+// The largest frame of lights, self-shadows and properties.
+fn max_back_frame(file: &[u8], sections: VmdSections) -> u32
+    requires { ⌜ Inside (now file) (scan-is sections) ⌝ }
+    ensures { λ r. ⌜ r ≡ back-largest (now (file .entry)) (scan-is sections) ⌝ }
+{
+    let lights = largest_frame(file, sections.lights, LIGHT_SIZE, 0);
+    let self_shadows = largest_frame(file, sections.self_shadows, SELF_SHADOW_SIZE, 0);
+    let section = sections.properties;
+    let properties = largest_property_frame(file, section.place, section.count as usize);
+    vmd_bytes::larger(lights, vmd_bytes::larger(self_shadows, properties))
+}
+
+// The largest frame of a scanned file.
+pub fn max_frame(file: &[u8], sections: VmdSections) -> u32
+    requires { ⌜ Inside (now file) (scan-is sections) ⌝ }
+    ensures { λ r. ⌜ r ≡ scan-largest (now (file .entry)) (scan-is sections) ⌝ }
+{
+    let bones = largest_frame(file, sections.bones, BONE_SIZE, NAMED_FRAME_OFFSET);
+    let morphs = largest_frame(file, sections.morphs, MORPH_SIZE, NAMED_FRAME_OFFSET);
+    let cameras = largest_frame(file, sections.cameras, CAMERA_SIZE, 0);
+    let back = max_back_frame(file, sections);
+    vmd_bytes::larger(
+        bones,
+        vmd_bytes::larger(morphs, vmd_bytes::larger(cameras, back)),
+    )
+}

@@ -1,0 +1,3 @@
+pub mod Rewriting
+pub mod Sections
+pub mod Properties

@@ -1,0 +1,244 @@
+// The exporter's writers: each reads records of a file and writes their canonical bytes, names up to their first zero and
+// then zeros, flags as 0 or 1, everything else as it is. Internal: callers see to the lengths.
+use vmd_records::VmdParsedBoneFrame;
+use vmd_records::VmdParsedCameraFrame;
+use vmd_records::VmdParsedIkState;
+use vmd_records::VmdParsedLightFrame;
+use vmd_records::VmdParsedMorphFrame;
+use vmd_records::VmdParsedPropertyFrame;
+use vmd_records::VmdParsedSelfShadowFrame;
+ghost use mathlib.Core.Path.{_≡_};
+ghost use Prim.Native.Nat.{_+_, _-_, _*_, _≤_};
+ghost use lib.ListN.{length, drop};
+ghost use Rattle.vmd_format.specs.Records.{bone, morph, camera, light, self-shadow, ik-state};
+ghost use Rattle.vmd_format.specs.Read.{table, write-all};
+ghost use Rattle.vmd_format.specs.Places.{next-frame, Reaches};
+ghost use Rattle.vmd_format.specs.PlacesLaws.{property-in, frames-in};
+ghost use Rattle.vmd_format.specs.Take.{property};
+ghost use Rattle.vmd_bytes.specs.Slices.{splice, part};
+
+// The size of each record; of a property frame, without its IK states.
+const BONE_SIZE: usize = VmdParsedBoneFrame::SIZE;
+
+const MORPH_SIZE: usize = VmdParsedMorphFrame::SIZE;
+
+const CAMERA_SIZE: usize = VmdParsedCameraFrame::SIZE;
+
+const LIGHT_SIZE: usize = VmdParsedLightFrame::SIZE;
+
+const SELF_SHADOW_SIZE: usize = VmdParsedSelfShadowFrame::SIZE;
+
+const IK_STATE_SIZE: usize = VmdParsedIkState::SIZE;
+
+const PROPERTY_SIZE: usize = VmdParsedPropertyFrame::SIZE;
+
+// The name of a bone or a morph, the same with the byte after it, which is two words, and what a bone has after its name.
+const NAME_SIZE: usize = 15;
+
+const NAME_WORDS: usize = 16;
+
+const BONE_REST: usize = BONE_SIZE - NAME_SIZE;
+
+// The name of an IK state.
+const IK_NAME_SIZE: usize = 20;
+
+// Where a byte or a count stands in its record.
+const PERSPECTIVE: usize = 60;
+
+const ENABLED: usize = IK_NAME_SIZE;
+
+const VISIBLE: usize = 4;
+
+const IK_COUNT: usize = 5;
+
+// ---- bones
+
+// The name is written by words, one byte too wide, and then the rest from that byte on.
+pub fn write_bone(src: &[u8], at: usize, out: &mut [u8], to: usize)
+    requires { ⌜ (at + 111 ≤ length (now src)) × (to + 111 ≤ length (now out)) ⌝ }
+    ensures { λ _. ⌜ now (out .exit) ≡ splice (now (out .entry)) to (bone .encode (bone .decode (drop at (now (src .entry))))) ⌝ }
+{
+    vmd_bytes::write_name(src, at, out, to, NAME_WORDS);
+    vmd_bytes::copy_bytes(src, at + NAME_SIZE, out, to + NAME_SIZE, BONE_REST);
+}
+
+pub fn write_bones(src: &[u8], at: usize, out: &mut [u8], to: usize, n: usize)
+    requires { ⌜ (at + n * 111 ≤ length (now src)) × (to + n * 111 ≤ length (now out)) ⌝ }
+    ensures { λ _. ⌜ now (out .exit) ≡ splice (now (out .entry)) to (write-all (bone .encode) (table bone n (drop at (now (src .entry))))) ⌝ }
+{
+    let mut p = at;
+    let mut q = to;
+    let mut left = n;
+    while 0 < left {
+        write_bone(src, p, out, q);
+        p += BONE_SIZE;
+        q += BONE_SIZE;
+        left -= 1;
+    }
+}
+
+// ---- morphs
+
+pub fn write_morph(src: &[u8], at: usize, out: &mut [u8], to: usize)
+    requires { ⌜ (at + 23 ≤ length (now src)) × (to + 23 ≤ length (now out)) ⌝ }
+    ensures { λ _. ⌜ now (out .exit) ≡ splice (now (out .entry)) to (morph .encode (morph .decode (drop at (now (src .entry))))) ⌝ }
+{
+    vmd_bytes::write_name(src, at, out, to, NAME_WORDS);
+    vmd_bytes::copy_word(src, at + NAME_SIZE, out, to + NAME_SIZE);
+}
+
+pub fn write_morphs(src: &[u8], at: usize, out: &mut [u8], to: usize, n: usize)
+    requires { ⌜ (at + n * 23 ≤ length (now src)) × (to + n * 23 ≤ length (now out)) ⌝ }
+    ensures { λ _. ⌜ now (out .exit) ≡ splice (now (out .entry)) to (write-all (morph .encode) (table morph n (drop at (now (src .entry))))) ⌝ }
+{
+    let mut p = at;
+    let mut q = to;
+    let mut left = n;
+    while 0 < left {
+        write_morph(src, p, out, q);
+        p += MORPH_SIZE;
+        q += MORPH_SIZE;
+        left -= 1;
+    }
+}
+
+// ---- cameras
+
+// Copies what a camera has before its perspective byte, through a local array: no store comes before the last load, so that
+// the copy goes by words and not by bytes.
+fn copy_camera_front(src: &[u8], at: usize, out: &mut [u8], to: usize)
+    requires { ⌜ (at + 60 ≤ length (now src)) × (to + 60 ≤ length (now out)) ⌝ }
+    ensures { λ _. ⌜ now (out .exit) ≡ splice (now (out .entry)) to (part (now (src .entry)) at 60) ⌝ }
+{
+    let mut front = [0u8; PERSPECTIVE];
+    vmd_bytes::copy_bytes(src, at, &mut front, 0, PERSPECTIVE);
+    vmd_bytes::copy_bytes(&front, 0, out, to, PERSPECTIVE);
+}
+
+pub fn write_camera(src: &[u8], at: usize, out: &mut [u8], to: usize)
+    requires { ⌜ (at + 61 ≤ length (now src)) × (to + 61 ≤ length (now out)) ⌝ }
+    ensures { λ _. ⌜ now (out .exit) ≡ splice (now (out .entry)) to (camera .encode (camera .decode (drop at (now (src .entry))))) ⌝ }
+{
+    copy_camera_front(src, at, out, to);
+    let read = src[at + PERSPECTIVE];
+    let flag = vmd_bytes::canonical_inverted(read);
+    out[to + PERSPECTIVE] = flag;
+}
+
+pub fn write_cameras(src: &[u8], at: usize, out: &mut [u8], to: usize, n: usize)
+    requires { ⌜ (at + n * 61 ≤ length (now src)) × (to + n * 61 ≤ length (now out)) ⌝ }
+    ensures { λ _. ⌜ now (out .exit) ≡ splice (now (out .entry)) to (write-all (camera .encode) (table camera n (drop at (now (src .entry))))) ⌝ }
+{
+    let mut p = at;
+    let mut q = to;
+    let mut left = n;
+    while 0 < left {
+        write_camera(src, p, out, q);
+        p += CAMERA_SIZE;
+        q += CAMERA_SIZE;
+        left -= 1;
+    }
+}
+
+// ---- lights and self-shadows: no byte changes
+
+pub fn write_light(src: &[u8], at: usize, out: &mut [u8], to: usize)
+    requires { ⌜ (at + 28 ≤ length (now src)) × (to + 28 ≤ length (now out)) ⌝ }
+    ensures { λ _. ⌜ now (out .exit) ≡ splice (now (out .entry)) to (light .encode (light .decode (drop at (now (src .entry))))) ⌝ }
+{
+    vmd_bytes::copy_bytes(src, at, out, to, LIGHT_SIZE);
+}
+
+pub fn write_lights(src: &[u8], at: usize, out: &mut [u8], to: usize, n: usize)
+    requires { ⌜ (at + n * 28 ≤ length (now src)) × (to + n * 28 ≤ length (now out)) ⌝ }
+    ensures { λ _. ⌜ now (out .exit) ≡ splice (now (out .entry)) to (write-all (light .encode) (table light n (drop at (now (src .entry))))) ⌝ }
+{
+    vmd_bytes::copy_bytes(src, at, out, to, n * LIGHT_SIZE);
+}
+
+pub fn write_self_shadow(src: &[u8], at: usize, out: &mut [u8], to: usize)
+    requires { ⌜ (at + 9 ≤ length (now src)) × (to + 9 ≤ length (now out)) ⌝ }
+    ensures { λ _. ⌜ now (out .exit) ≡ splice (now (out .entry)) to (self-shadow .encode (self-shadow .decode (drop at (now (src .entry))))) ⌝ }
+{
+    vmd_bytes::copy_bytes(src, at, out, to, SELF_SHADOW_SIZE);
+}
+
+pub fn write_self_shadows(src: &[u8], at: usize, out: &mut [u8], to: usize, n: usize)
+    requires { ⌜ (at + n * 9 ≤ length (now src)) × (to + n * 9 ≤ length (now out)) ⌝ }
+    ensures { λ _. ⌜ now (out .exit) ≡ splice (now (out .entry)) to (write-all (self-shadow .encode) (table self-shadow n (drop at (now (src .entry))))) ⌝ }
+{
+    vmd_bytes::copy_bytes(src, at, out, to, n * SELF_SHADOW_SIZE);
+}
+
+// ---- IK states
+
+pub fn write_ik_state(src: &[u8], at: usize, out: &mut [u8], to: usize)
+    requires { ⌜ (at + 21 ≤ length (now src)) × (to + 21 ≤ length (now out)) ⌝ }
+    ensures { λ _. ⌜ now (out .exit) ≡ splice (now (out .entry)) to (ik-state .encode (ik-state .decode (drop at (now (src .entry))))) ⌝ }
+{
+    vmd_bytes::write_name(src, at, out, to, IK_NAME_SIZE);
+    let read = src[at + ENABLED];
+    let flag = vmd_bytes::canonical_flag(read);
+    out[to + ENABLED] = flag;
+}
+
+pub fn write_ik_states(src: &[u8], at: usize, out: &mut [u8], to: usize, n: usize)
+    requires { ⌜ (at + n * 21 ≤ length (now src)) × (to + n * 21 ≤ length (now out)) ⌝ }
+    ensures { λ _. ⌜ now (out .exit) ≡ splice (now (out .entry)) to (write-all (ik-state .encode) (table ik-state n (drop at (now (src .entry))))) ⌝ }
+{
+    let mut p = at;
+    let mut q = to;
+    let mut left = n;
+    while 0 < left {
+        write_ik_state(src, p, out, q);
+        p += IK_STATE_SIZE;
+        q += IK_STATE_SIZE;
+        left -= 1;
+    }
+}
+
+// ---- properties
+
+// How many bytes the property frame at a place has, its IK states included.
+fn property_length(src: &[u8], at: usize) -> usize
+    requires { ⌜ at + 9 ≤ length (now src) ⌝ }
+    ensures { λ r. ⌜ at + r ≡ next-frame (now (src .entry)) at ⌝ }
+{
+    let states = vmd_bytes::read_u32_le(src, at + IK_COUNT);
+    PROPERTY_SIZE + states as usize * IK_STATE_SIZE
+}
+
+// One property frame with its IK states.
+pub fn write_property(src: &[u8], at: usize, out: &mut [u8], to: usize)
+    requires { ⌜ (next-frame (now src) at ≤ length (now src)) × (to + (next-frame (now src) at - at) ≤ length (now out)) ⌝ }
+    ensures { λ _. ⌜ now (out .exit) ≡ splice (now (out .entry)) to (property .write (property-in (now (src .entry)) at)) ⌝ }
+{
+    let frame = vmd_bytes::read_u32_le(src, at);
+    vmd_bytes::write_u32_le(out, to, frame);
+    let read = src[at + VISIBLE];
+    let flag = vmd_bytes::canonical_flag(read);
+    out[to + VISIBLE] = flag;
+    let count = vmd_bytes::read_u32_le(src, at + IK_COUNT);
+    vmd_bytes::write_u32_le(out, to + IK_COUNT, count);
+    let states = count as usize;
+    write_ik_states(src, at + PROPERTY_SIZE, out, to + PROPERTY_SIZE, states);
+}
+
+// n property frames one after another. The result is the place after what was written.
+pub fn write_properties(src: &[u8], at: usize, out: &mut [u8], to: usize, n: usize) -> usize
+    requires { ⌜ Reaches (now src) n at × (to + length (write-all (property .write) (frames-in (now src) n at)) ≤ length (now out)) ⌝ }
+    ensures { λ r. ⌜ (now (out .exit) ≡ splice (now (out .entry)) to (write-all (property .write) (frames-in (now (src .entry)) n at)))
+        × (r ≡ to + length (write-all (property .write) (frames-in (now (src .entry)) n at))) ⌝ }
+{
+    let mut p = at;
+    let mut q = to;
+    let mut left = n;
+    while 0 < left {
+        let size = property_length(src, p);
+        write_property(src, p, out, q);
+        p += size;
+        q += size;
+        left -= 1;
+    }
+    q
+}
