@@ -143,7 +143,7 @@ fn place_of(file: &[u8], section: VmdSection, record_size: usize, i: usize) -> V
 fn place_of_property(file: &[u8], section: VmdSection, scratch: &[u64], i: usize) -> VmdPlace
     ensures { λ r. ⌜ place-answer r ≡ property-place (part-is section) (now (scratch .entry)) i (now (file .entry)) ⌝ }
 {
-    if (section.count as usize) <= i {
+    if i >= (section.count as usize) {
         return VmdPlace::Refused(VmdRefusal::Outside);
     }
     if scratch.len() <= i {
