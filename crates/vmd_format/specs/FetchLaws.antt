@@ -17,7 +17,7 @@ use Rattle.vmd_format.specs.Records.{Bone, Morph, Camera, Light, SelfSha
 use Rattle.vmd_format.specs.Read.{Step, refused, got, table, refuse, Manner}
 use Rattle.vmd_format.specs.Take.{Take, File, take-of, read-file, answer, read-take}
 use Rattle.vmd_format.specs.Opening.{ik-total, largest-frame, positions, Part, Scan, Opening, scan-of, opening-of, open-file, scratch-if, scratch-after}
-use Rattle.vmd_format.specs.Fetch.{record-place, fetch, model-of, PropertyHead, property-place, property-at, fetch-property, ik-part, fetch-ik-state}
+use Rattle.vmd_format.specs.Fetch.{record-place, fetch, or-empty, model-of, PropertyHead, property-place, property-at, fetch-property, ik-part, fetch-ik-state}
 use Rattle.vmd_format.specs.Places.{Span, span, Walk, walk-on, walk, next-frame, frame-places, scan-largest, open-scan, scan-file, scan-scratch}
 use Rattle.vmd_format.specs.PlacesLaws.{Holds, table-length, table-at, section-in, property-in, frames-in, Frame, frame-span}
 use Rattle.vmd_format.specs.ScanLaws.{frames-length, file-in, PartWithin, Inside, Agrees, Matches, file-agrees}
@@ -52,6 +52,24 @@ fetches-table K p s w = record { own = own; past = past }
 
     past : (i : ℕ) → length (table K (p .count) (drop (p .place) s)) ≤ i → fetch K p i s ≡ declined outside
     past i h = let k : p .count ≤ i = rw n at h in rw (le-ltb i (p .count) k)
+
+-- what is made of a record that is fetched: its fields, or a part of the file
+module _ {A : Type 0} {K : Layout A} {p : Part} {s : List ℕ} {l : List A} (h : Fetches K p s l) where
+  pub fetches-fields : {B : Type 0} (f : A → B) (i : ℕ) (d : A) → i < length l → map-answer f (fetch K p i s) ≡ given (f (getD l i d))
+  unfolding map-answer
+  fetches-fields f i d k = rw (h .own i d k)
+
+  pub fetches-part : (f : A → List ℕ) (i : ℕ) (d : A) → i < length l → or-empty (map-answer f (fetch K p i s)) ≡ f (getD l i d)
+  unfolding or-empty
+  fetches-part f i d k = rw (fetches-fields f i d k)
+
+  pub past-fields : {B : Type 0} (f : A → B) (i : ℕ) → length l ≤ i → map-answer f (fetch K p i s) ≡ declined outside
+  unfolding map-answer
+  past-fields f i k = rw (h .past i k)
+
+  pub past-part : (f : A → List ℕ) (i : ℕ) → length l ≤ i → or-empty (map-answer f (fetch K p i s)) ≡ []
+  unfolding or-empty
+  past-part f i k = rw (past-fields f i k)
 
 -- ---- property frames
 
