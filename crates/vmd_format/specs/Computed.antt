@@ -1,8 +1,8 @@
 -- What the computed examples share: one name that unfolds the format, bytes written out by hand, and what they say.
 use Prim.Native.Nat.{ℕ, zero, suc}
-use mathlib.Core.Bool.{Bool, true, false}
+use mathlib.Core.Bool.{Bool, false}
 use mathlib.Core.List.{List, [], _∷_, _++_}
-use lib.ListN.{length, replicate}
+use lib.ListN.{replicate}
 use lib.Dec.{eqb}
 use Rattle.vmd_format.specs.Bytes.{u32, u32-bytes, before-zero, padded, is-set, flag-byte, is-zero, inverted-byte}
 use Rattle.vmd_format.specs.Layout.{number, byte, flag, inverted, name, raw, _⊗_, as-record}

@@ -1,7 +1,7 @@
 -- Export and joining by places: what is written in terms of a scan, and how long it is.
-use Prim.Native.Nat.{ℕ, zero, suc, _+_, _*_, _-_, _≤_, _<_}
-use mathlib.Core.Path.{_≡_, refl, ap, ap₂, sym, _∙_, subst}
-use mathlib.Core.Bool.{Bool, true, false, _&&_}
+use Prim.Native.Nat.{ℕ, _+_, _*_, _-_}
+use mathlib.Core.Path.{_≡_, refl, ap, sym, _∙_, subst}
+use mathlib.Core.Bool.{_&&_}
 use mathlib.Core.List.{List, [], _∷_, _++_}
 use native.Mathlib.Omega.{arith}
 use lib.ListN.{length, length-append, drop}
@@ -14,9 +14,9 @@ use Rattle.vmd_format.specs.Opening.{ik-total, Scan}
 use Rattle.vmd_format.specs.Fetch.{model-of}
 use Rattle.vmd_format.specs.Places.{scan-file}
 use Rattle.vmd_format.specs.PlacesLaws.{table-length, section-in, frames-in}
-use Rattle.vmd_format.specs.ScanLaws.{frames-length, file-in, Inside, Agrees, Matches, file-agrees}
+use Rattle.vmd_format.specs.ScanLaws.{frames-length, file-in, Inside, Matches, file-agrees}
 use Rattle.vmd_format.specs.OpeningLaws.{agreed-total}
-use Rattle.vmd_format.specs.Join.{export-file, join, fits-u32, fit-together, join-takes, join-files}
+use Rattle.vmd_format.specs.Join.{export-file, join, fits-u32, fit-together, join-takes, join-files, file-length}
 use Rattle.vmd_format.specs.Lengths.{export-length}
 
 -- the take of these places
@@ -114,10 +114,6 @@ ik-append : (l m : List Property) → ik-total (l ++ m) ≡ ik-total l + ik-tota
 unfolding ik-total
 ik-append [] m = omega arith
 ik-append (p ∷ l) m = omega (arith, ik-append l m)
-
--- the length of a file of so many records
-unfoldable pub file-length : ℕ → ℕ → ℕ → ℕ → ℕ → ℕ → ℕ → ℕ
-file-length b m c l s p k = 74 + 111 * b + 23 * m + 61 * c + 28 * l + 9 * s + 9 * p + 21 * k
 
 pub scan-length : (t : Take) (x : Scan) → Counts t x
     → length (write-take t)

@@ -1,26 +1,26 @@
 -- With the file's own opening and scratch, a fetch gives the records of the take that the file says, number by number.
 use Prim.Native.Nat.{ℕ, zero, suc, _+_, _*_, _-_, _≤_, _<_}
 use mathlib.Core.Path.{_≡_, refl, ap, sym, _∙_, subst}
-use mathlib.Core.Bool.{Bool, true, false, _&&_}
+use mathlib.Core.Bool.{Bool, true, false}
 use mathlib.Core.List.{List, [], _∷_, _++_}
 use native.Mathlib.Omega.{arith}
 use native.Mathlib.Nat.{mul-le-mul-right, add-zero}
-use borrow.Author.Tests.{le-leb, lt-leb, leb-true, leb-false, lt-ltb, le-ltb}
+use borrow.Author.Tests.{le-leb, leb-true, lt-ltb, le-ltb}
 use lib.ListN.{length, getD, take, drop, length-append, length-drop, List·getD-append}
 use lib.Seq.{drop-drop, getD-drop, take-at}
-use lib.Dec.{leb, ltb}
-use Rattle.vmd_format.specs.Bytes.{u32, is-set}
+use lib.Dec.{leb}
+use Rattle.vmd_format.specs.Bytes.{u32}
 use Rattle.vmd_format.specs.Layout.{Layout, number, byte, flag, inverted, name, raw, _⊗_, as-record}
-use Rattle.vmd_format.specs.Refusal.{Refusal, file-ends-early, scratch-too-short, outside}
+use Rattle.vmd_format.specs.Refusal.{file-ends-early, scratch-too-short, outside}
 use Rattle.vmd_format.specs.Answer.{Answer, declined, given, and-then, map-answer, unless}
-use Rattle.vmd_format.specs.Records.{Bone, Morph, Camera, Light, SelfShadow, IkState, Property, bone, morph, camera, light, self-shadow, ik-state, property-head}
+use Rattle.vmd_format.specs.Records.{IkState, Property, bone, morph, camera, light, self-shadow, ik-state, property-head}
 use Rattle.vmd_format.specs.Read.{Step, refused, got, table, refuse, Manner}
 use Rattle.vmd_format.specs.Take.{Take, File, take-of, read-file, answer, read-take}
-use Rattle.vmd_format.specs.Opening.{ik-total, largest-frame, positions, Part, Scan, Opening, scan-of, opening-of, open-file, scratch-if, scratch-after}
+use Rattle.vmd_format.specs.Opening.{ik-total, largest-frame, positions, Part, Scan, Opening, open-file, scratch-if, scratch-after}
 use Rattle.vmd_format.specs.Fetch.{record-place, fetch, or-empty, model-of, PropertyHead, property-place, property-at, fetch-property, ik-part, fetch-ik-state}
 use Rattle.vmd_format.specs.Places.{Span, span, Walk, walk-on, walk, next-frame, frame-places, scan-largest, open-scan, scan-file, scan-scratch}
 use Rattle.vmd_format.specs.PlacesLaws.{Holds, table-length, table-at, section-in, property-in, frames-in, Frame, frame-span}
-use Rattle.vmd_format.specs.ScanLaws.{frames-length, file-in, PartWithin, Inside, Agrees, Matches, file-agrees}
+use Rattle.vmd_format.specs.ScanLaws.{frames-length, file-in, Inside, Agrees, Matches, file-agrees}
 use Rattle.vmd_format.specs.OpeningLaws.{file-largest, positions-places, open-by-places, scratch-by-places, agreed-total}
 
 -- ---- records of one size

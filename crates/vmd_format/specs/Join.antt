@@ -1,17 +1,22 @@
 -- Export and joining: document 01, "Export" and "Joining". Definitions only.
-use Prim.Native.Nat.{ℕ, _+_}
+use Prim.Native.Nat.{ℕ, _+_, _*_}
 use mathlib.Core.Bool.{Bool, _&&_}
 use mathlib.Core.List.{List, [], _∷_, _++_}
 use lib.ListN.{length}
 use lib.Dec.{leb}
 use Rattle.vmd_format.specs.Refusal.{count-too-large}
-use Rattle.vmd_format.specs.Answer.{Answer, declined, given, and-then, map-answer, unless}
+use Rattle.vmd_format.specs.Answer.{Answer, given, and-then, map-answer, unless}
 use Rattle.vmd_format.specs.Read.{Manner}
 use Rattle.vmd_format.specs.Take.{Take, read-take, write-take}
 
 -- "`export_vmd_animation` over the parsed file"
 unfoldable pub export-file : Manner → List ℕ → Answer (List ℕ)
 export-file m s = map-answer write-take (read-take m s)
+
+-- "With b bones, m morphs, c cameras, l lights, s self-shadows, p properties and k IK states over all of them it writes 74 +
+-- 111b + 23m + 61c + 28l + 9s + 9p + 21k bytes"
+unfoldable pub file-length : ℕ → ℕ → ℕ → ℕ → ℕ → ℕ → ℕ → ℕ
+file-length b m c l s p k = 74 + 111 * b + 23 * m + 61 * c + 28 * l + 9 * s + 9 * p + 21 * k
 
 -- "The joined model name is the first file's where that is not empty, else the second's."
 unfoldable pub joined-model : List ℕ → List ℕ → List ℕ

@@ -1,19 +1,16 @@
 -- What joined takes come to: well formed, with the empty take on either side, three together.
-use Prim.Native.Nat.{ℕ, zero, suc, _+_, _≤_, _<_, _^_}
-use mathlib.Core.Path.{_≡_, refl, ap, sym, _∙_, subst}
-use mathlib.Core.Bool.{Bool, true, false, _&&_, and-eq-true-iff}
+use Prim.Native.Nat.{ℕ, _+_, _≤_, _<_, _^_}
+use mathlib.Core.Path.{_≡_, refl}
+use mathlib.Core.Bool.{true, and-eq-true-iff}
 use mathlib.Core.List.{List, [], _∷_, _++_, append-assoc, append-nil}
 use native.Mathlib.Omega.{arith}
-use borrow.Author.Tests.{le-leb, lt-leb, leb-true}
+use borrow.Author.Tests.{le-leb, leb-true}
 use lib.ListN.{length, length-append}
-use lib.Dec.{leb}
 use Rattle.vmd_format.specs.BytesLaws.{Name}
 use Rattle.vmd_format.specs.ReadLaws.{All, all-append}
-use Rattle.vmd_format.specs.Refusal.{count-too-large}
-use Rattle.vmd_format.specs.Answer.{Answer, declined, given, unless}
-use Rattle.vmd_format.specs.Take.{Take, write-take}
+use Rattle.vmd_format.specs.Take.{Take}
 use Rattle.vmd_format.specs.TakeLaws.{WellFormed}
-use Rattle.vmd_format.specs.Join.{joined-model, join, fits-u32, fit-together, join-takes}
+use Rattle.vmd_format.specs.Join.{joined-model, join, fits-u32, fit-together}
 
 -- "The counts of two takes added up fit 32 bits when, section by section, each of the six sums of their numbers of records
 -- is at most 4,294,967,295."

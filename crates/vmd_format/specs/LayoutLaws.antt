@@ -1,12 +1,11 @@
 -- What is written is read back, and what is read can be written: for each layout and for layouts put together.
-use Prim.Native.Nat.{ℕ, zero, suc, _+_, _*_, _/_, _%_, _≤_, _<_, _^_}
+use Prim.Native.Nat.{ℕ, _+_, _≤_, _<_, _^_}
 use mathlib.Core.Path.{_≡_, refl, ap, sym, _∙_, subst}
-use mathlib.Core.Bool.{Bool, true, false}
-use mathlib.Core.List.{List, [], _∷_, _++_, append-assoc}
+use mathlib.Core.List.{List, _++_, append-assoc}
 use native.Mathlib.Omega.{arith}
-use lib.ListN.{length, getD, take, drop, length-append, length-drop}
+use lib.ListN.{length, drop, length-append, length-drop}
 use lib.Seq.{drop-at}
-use Rattle.vmd_format.specs.Bytes.{u32, u32-bytes, before-zero, padded, is-zero, is-set, inverted-byte, flag-byte}
+use Rattle.vmd_format.specs.Bytes.{u32-bytes}
 use Rattle.vmd_format.specs.BytesLaws.{Bytes, bytes-drop, u32-back, u32-lt, Name, Raw, padded-length, padded-back, padded-take, name-fair, raw-fair, inverted-back, flag-back}
 use Rattle.vmd_format.specs.Layout.{Layout, number, byte, flag, inverted, name, raw, _⊗_, as-record}
 

@@ -1,25 +1,21 @@
 -- Opening by places is opening: counts, places, IK total, largest frame, and the scratch.
-use Prim.Native.Nat.{ℕ, zero, suc, _+_, _*_, _-_, _≤_, _<_, max}
+use Prim.Native.Nat.{ℕ, zero, suc, _+_, _*_, _-_, _≤_, max}
 use mathlib.Core.Path.{_≡_, refl, ap, ap₂, sym, _∙_, subst}
-use mathlib.Core.Bool.{Bool, true, false}
-use mathlib.Core.List.{List, [], _∷_}
+use mathlib.Core.List.{List, _∷_}
 use native.Mathlib.Omega.{arith}
-use lib.ListN.{length, getD, take, drop, length-drop}
-use lib.Seq.{drop-drop}
-use lib.Dec.{leb}
+use lib.ListN.{length, drop}
 use borrow.Author.Tests.{le-leb}
 use Rattle.vmd_format.specs.Bytes.{u32}
-use Rattle.vmd_format.specs.Layout.{Layout, number, byte, flag, inverted, name, raw, _⊗_, as-record}
-use Rattle.vmd_format.specs.Refusal.{Refusal, scratch-too-short}
+use Rattle.vmd_format.specs.Layout.{Layout, number, byte, inverted, name, raw, _⊗_, as-record}
 use Rattle.vmd_format.specs.Answer.{Answer, declined, given, and-then, unless}
-use Rattle.vmd_format.specs.Records.{Bone, Morph, Camera, Light, SelfShadow, Property, bone, morph, camera, light, self-shadow, ik-state}
+use Rattle.vmd_format.specs.Records.{bone, morph, camera, light, self-shadow, ik-state}
 use Rattle.vmd_format.specs.Read.{Step, refused, got, table, Manner}
 use Rattle.vmd_format.specs.Take.{Take, File, take-of, read-file, answer, read-take}
-use Rattle.vmd_format.specs.Opening.{ik-total, largest, largest-frame, positions, Part, Scan, Opening, part-of, scan-of, opening-of, opened, open-file, scratch-if, scratch-of, scratch-after}
+use Rattle.vmd_format.specs.Opening.{ik-total, largest, largest-frame, positions, Scan, Opening, part-of, scan-of, opening-of, opened, open-file, scratch-of, scratch-after}
 use Rattle.vmd_format.specs.Fetch.{model-of}
 use Rattle.vmd_format.specs.Places.{scan-file, largest-of, next-frame, largest-frame-of, frame-places, part-largest, scan-largest, open-scan, scan-scratch}
 use Rattle.vmd_format.specs.PlacesLaws.{table-length, section-in, property-in, frames-in}
-use Rattle.vmd_format.specs.ScanLaws.{file-in, Inside, Agrees, Matches, file-agrees}
+use Rattle.vmd_format.specs.ScanLaws.{file-in, Agrees, Matches, file-agrees}
 
 -- the largest frame of back-to-back records
 largest-table : {A : Type 0} (K : Layout A) (frame : A → ℕ) (offset : ℕ) → ((s : List ℕ) → frame (K .decode s) ≡ u32 (drop offset s))

@@ -8,7 +8,7 @@ use Rattle.vmd_format.specs.Bytes.{before-zero}
 use Rattle.vmd_format.specs.Refusal.{Refusal, parts-not-whole, name-unfit, name-not-good, not-finite, self-shadow-unfit, columns-disagree, count-too-large, name-index-too-large}
 use Rattle.vmd_format.specs.Answer.{Answer, declined, given}
 use Rattle.vmd_format.specs.Layout.{Layout}
-use Rattle.vmd_format.specs.Records.{Bone, Morph, Camera, Light, SelfShadow, IkState, Property, bone, morph, camera, light, self-shadow}
+use Rattle.vmd_format.specs.Records.{Bone, Morph, Camera, Light, SelfShadow, IkState, Property, camera, light, self-shadow}
 use Rattle.vmd_format.specs.Read.{Step, refused, got, Reader, bind, table}
 use Rattle.vmd_format.specs.Take.{Take, property, write-take}
 use Rattle.vmd_format.specs.Names.{good}

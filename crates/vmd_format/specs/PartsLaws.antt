@@ -3,12 +3,12 @@
 use Prim.Native.Nat.{ℕ, zero, suc, _+_, _*_, _-_, _/_, _≤_, _<_, _^_}
 use mathlib.Core.Path.{_≡_, refl, ap}
 use mathlib.Core.Bool.{Bool, true, false, _&&_, and-eq-true-iff}
-use mathlib.Core.List.{List, [], _∷_, _++_, map}
+use mathlib.Core.List.{List, [], _∷_, map}
 use native.Mathlib.Omega.{arith}
 use native.Mathlib.Nat.{div-mul-le-self}
 use borrow.Author.Tests.{leb-true, ltb-true, eqb-true}
-use lib.ListN.{length, getD, take, drop, length-append, length-drop, length-map, take-append-drop}
-use lib.Seq.{take-all, take-append-seam}
+use lib.ListN.{length, getD, drop, length-drop, length-map}
+use lib.Seq.{take-all}
 use lib.Dec.{leb, ltb}
 use Rattle.vmd_format.specs.Bytes.{before-zero}
 use Rattle.vmd_format.specs.BytesLaws.{Bytes, bytes-drop, bytes-take, Name, name-fair, raw-fair}

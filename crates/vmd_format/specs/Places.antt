@@ -6,7 +6,7 @@ use mathlib.Core.List.{List, [], _∷_}
 use lib.ListN.{length, drop}
 use lib.Dec.{leb}
 use Rattle.vmd_format.specs.Bytes.{u32}
-use Rattle.vmd_format.specs.Refusal.{Refusal, file-ends-early, scratch-too-short}
+use Rattle.vmd_format.specs.Refusal.{file-ends-early, scratch-too-short}
 use Rattle.vmd_format.specs.Answer.{Answer, declined, given, and-then, unless}
 use Rattle.vmd_format.specs.Read.{Step, refused, got, Oversized, refuse, emptied, BytesOver, ignored, turned-down, Manner}
 use Rattle.vmd_format.specs.Take.{header}

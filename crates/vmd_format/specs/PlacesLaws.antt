@@ -1,23 +1,23 @@
 -- Reading by places is the reading of Take and Opening: the same refusals, the same records, and every place in the file.
 use Prim.Native.Nat.{ℕ, zero, suc, _+_, _*_, _-_, _≤_, _<_}
-use mathlib.Core.Path.{_≡_, refl, ap, sym, _∙_, subst}
-use mathlib.Core.Bool.{Bool, true, false, _&&_}
+use mathlib.Core.Path.{_≡_, refl, ap, sym, _∙_}
+use mathlib.Core.Bool.{Bool, true, false}
 use mathlib.Core.List.{List, [], _∷_}
 use native.Mathlib.Omega.{arith}
 use native.Mathlib.Nat.{zero-mul, add-zero, not-le-of-lt, lt-of-not-le}
 use borrow.Author.Tests.{le-leb, lt-leb, leb-true, leb-false}
-use lib.ListN.{length, getD, take, drop, length-drop}
+use lib.ListN.{length, getD, drop, length-drop}
 use lib.Seq.{drop-drop, drop-length, getD-drop}
 use lib.Dec.{leb}
-use Rattle.vmd_format.specs.Bytes.{u32, is-set, before-zero}
-use Rattle.vmd_format.specs.Layout.{Layout, number, byte, flag, inverted, name, raw, _⊗_, as-record}
-use Rattle.vmd_format.specs.Refusal.{Refusal, file-ends-early}
-use Rattle.vmd_format.specs.Answer.{Answer, declined, given, and-then}
-use Rattle.vmd_format.specs.Records.{Bone, Morph, Camera, Light, SelfShadow, IkState, Property, bone, morph, camera, light, self-shadow, ik-state, property-head}
-use Rattle.vmd_format.specs.Read.{Step, refused, got, Reader, bind, Codec, whole, whole-if, fixed, many, table, Section, no-section, Oversized, refuse, emptied, BytesOver, ignored, turned-down, Manner, over-count, records-if, counted-if, counted, optional}
-use Rattle.vmd_format.specs.Take.{property, File, magic, same, model-if, magic-if, header-if, header, sections, ended, read-file}
-use Rattle.vmd_format.specs.Opening.{ik-total, Part, Scan, part-of, scan-of}
-use Rattle.vmd_format.specs.Places.{place-after, header-place, Span, part-in, no-span, over-span, records-span, count-span, span, optional-if, optional-span, Walk, walk-on, walk, over-if, scan-sections, scan-file, next-frame}
+use Rattle.vmd_format.specs.Bytes.{u32, is-set}
+use Rattle.vmd_format.specs.Layout.{Layout, number, flag, name, _⊗_, as-record}
+use Rattle.vmd_format.specs.Refusal.{file-ends-early}
+use Rattle.vmd_format.specs.Answer.{Answer, declined, given}
+use Rattle.vmd_format.specs.Records.{Property, ik-state, property-head}
+use Rattle.vmd_format.specs.Read.{Step, refused, got, bind, Codec, whole, whole-if, fixed, many, table, Section, no-section, Oversized, refuse, emptied, over-count, records-if, counted-if, counted, optional}
+use Rattle.vmd_format.specs.Take.{property}
+use Rattle.vmd_format.specs.Opening.{ik-total, Part}
+use Rattle.vmd_format.specs.Places.{Span, part-in, no-span, over-span, records-span, count-span, span, optional-if, optional-span, Walk, walk-on, walk, next-frame}
 
 -- a fact of what is given
 abbrev pub Holds : {A : Type 0} → (A → Type 0) → Answer A → Type 0

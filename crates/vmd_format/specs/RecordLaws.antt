@@ -1,10 +1,10 @@
 -- The laws of each record's layout.
 use Prim.Native.Nat.{ℕ, _<_, _^_}
-use mathlib.Core.Path.{_≡_, refl}
+use mathlib.Core.Path.{refl}
 use mathlib.Core.Bool.{Bool}
 use Rattle.vmd_format.specs.BytesLaws.{Name, Raw}
 use Rattle.vmd_format.specs.LayoutLaws.{Lawful, number-lawful, byte-lawful, flag-lawful, inverted-lawful, name-lawful, raw-lawful, _⊗-lawful_, record-lawful}
-use Rattle.vmd_format.specs.Records.{Bone, Morph, Camera, Light, SelfShadow, IkState, Property, bone, morph, camera, light, self-shadow, ik-state, property-head}
+use Rattle.vmd_format.specs.Records.{Bone, Morph, Camera, Light, SelfShadow, IkState, bone, morph, camera, light, self-shadow, ik-state, property-head}
 
 abbrev pub U32 : ℕ → Type 0
 U32 n = n < 2 ^ 32

@@ -7,7 +7,7 @@ use mathlib.Core.List.{List}
 use native.Mathlib.Omega.{arith}
 use Rattle.vmd_format.specs.BytesLaws.{Bytes}
 use Rattle.vmd_format.specs.Refusal.{Refusal, count-too-large}
-use Rattle.vmd_format.specs.Answer.{Answer, declined, given, and-then, map-answer, unless}
+use Rattle.vmd_format.specs.Answer.{declined, given, and-then, map-answer, unless}
 use Rattle.vmd_format.specs.Read.{Step, refused, got, Manner}
 use Rattle.vmd_format.specs.ReadLaws.{Always}
 use Rattle.vmd_format.specs.Take.{Take, File, take-of, read-file, answer, read-take, write-take}

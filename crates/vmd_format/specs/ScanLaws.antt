@@ -1,10 +1,9 @@
 -- A whole file read by places: the same refusals as reading it from the front, and the file of these places.
 use Prim.Native.Nat.{ℕ, zero, suc, _+_, _*_, _-_, _≤_, _<_}
-use mathlib.Core.Path.{_≡_, refl, ap, sym, _∙_, subst}
+use mathlib.Core.Path.{_≡_, refl, ap}
 use mathlib.Core.Bool.{Bool, true, false}
 use mathlib.Core.List.{List, [], _∷_}
 use native.Mathlib.Omega.{arith}
-use native.Mathlib.Nat.{zero-add}
 use borrow.Author.Tests.{le-leb, lt-leb, leb-true, leb-false}
 use lib.ListN.{length, take, drop, length-drop}
 use lib.Seq.{drop-length}
@@ -14,7 +13,7 @@ use Rattle.vmd_format.specs.Layout.{Layout, number, byte, flag, inverted
 use Rattle.vmd_format.specs.Refusal.{Refusal, file-ends-early, magic-differs}
 use Rattle.vmd_format.specs.Answer.{Answer, declined, given, and-then}
 use Rattle.vmd_format.specs.Records.{Property, bone, morph, camera, light, self-shadow}
-use Rattle.vmd_format.specs.Read.{Step, refused, got, Reader, bind, Codec, fixed, many, Section, refuse, BytesOver, ignored, turned-down, Manner, counted, optional}
+use Rattle.vmd_format.specs.Read.{Step, refused, got, Reader, bind, fixed, many, Section, refuse, BytesOver, ignored, turned-down, Manner}
 use Rattle.vmd_format.specs.Take.{property, File, magic, same, model-if, magic-if, header-if, header, sections, ended, read-file}
 use Rattle.vmd_format.specs.Opening.{ik-total, Part, Scan, part-of, scan-of}
 use Rattle.vmd_format.specs.Fetch.{model-in, model-of}

@@ -7,9 +7,8 @@ use lib.Dec.{leb, eqb}
 use Rattle.vmd_format.specs.Bytes.{before-zero, padded}
 use Rattle.vmd_format.specs.Refusal.{file-ends-early, magic-differs}
 use Rattle.vmd_format.specs.Answer.{Answer, declined, given}
-use Rattle.vmd_format.specs.Records.{Bone, Morph, Camera, Light, SelfShadow, IkState, Property, bone, morph, camera, light, self-shadow, ik-state, property-head}
-use Rattle.vmd_format.specs.Layout.{Layout}
-use Rattle.vmd_format.specs.Read.{Step, refused, got, Reader, _>>=_, bind, Codec, fixed, whole, Section, refuse, BytesOver, ignored, turned-down, Manner, lenient, counted, optional, write-counted}
+use Rattle.vmd_format.specs.Records.{Bone, Morph, Camera, Light, SelfShadow, Property, bone, morph, camera, light, self-shadow, ik-state, property-head}
+use Rattle.vmd_format.specs.Read.{Step, refused, got, Reader, _>>=_, Codec, fixed, whole, Section, refuse, BytesOver, ignored, turned-down, Manner, counted, optional, write-counted}
 
 -- "Property counts are tested at 9 bytes each first; a later frame can still find the file ended, also 1."
 unfoldable pub property : Codec Property

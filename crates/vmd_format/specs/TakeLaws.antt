@@ -1,23 +1,22 @@
 -- What is written reads back, and what is read can be written: for whole takes, in every manner of reading.
-use Prim.Native.Nat.{ℕ, zero, suc, _+_, _*_, _≤_, _<_, _^_}
-use mathlib.Core.Path.{_≡_, refl, ap, sym, _∙_, subst}
-use mathlib.Core.Bool.{Bool, true, false, _&&_}
+use Prim.Native.Nat.{ℕ, _+_, _≤_, _<_, _^_}
+use mathlib.Core.Path.{_≡_, refl, ap}
+use mathlib.Core.Bool.{Bool, true, false}
 use mathlib.Core.List.{List, [], _∷_, _++_, append-assoc, append-nil}
 use native.Mathlib.Omega.{arith}
-use borrow.Author.Tests.{le-leb, leb-true}
-use lib.ListN.{length, getD, take, drop, length-append, length-drop}
+use borrow.Author.Tests.{le-leb}
+use lib.ListN.{length, take, drop, length-append}
 use lib.Seq.{drop-at}
 use lib.Dec.{leb}
-use Rattle.vmd_format.specs.Bytes.{u32, u32-bytes, before-zero, padded}
-use Rattle.vmd_format.specs.BytesLaws.{Bytes, bytes-drop, bytes-nil, Name, padded-length, padded-back, name-fair}
-use Rattle.vmd_format.specs.Layout.{Layout, number, flag, _⊗_}
-use Rattle.vmd_format.specs.LayoutLaws.{Lawful}
-use Rattle.vmd_format.specs.Read.{Step, refused, got, Reader, bind, _>>=_, Codec, whole, fixed, Section, Oversized, refuse, emptied, BytesOver, ignored, turned-down, Manner, lenient, counted, optional, write-all, write-counted}
-use Rattle.vmd_format.specs.ReadLaws.{Always, always-bind, All, all-append, CodecLaws, whole-back, whole-fair, fixed-lawful, Sound, counted-back, counted-fair, optional-back, optional-fair}
-use Rattle.vmd_format.specs.Records.{Bone, Morph, Camera, Light, SelfShadow, IkState, Property, bone, morph, camera, light, self-shadow, ik-state, property-head}
+use Rattle.vmd_format.specs.Bytes.{u32-bytes, padded}
+use Rattle.vmd_format.specs.BytesLaws.{Bytes, bytes-drop, Name, padded-length, padded-back, name-fair}
+use Rattle.vmd_format.specs.Layout.{number, flag, _⊗_}
+use Rattle.vmd_format.specs.Read.{got, bind, whole, fixed, refuse, BytesOver, ignored, turned-down, Manner, lenient, counted, optional, write-all, write-counted}
+use Rattle.vmd_format.specs.ReadLaws.{Always, always-bind, All, CodecLaws, whole-back, whole-fair, fixed-lawful, Sound, counted-back, counted-fair, optional-back, optional-fair}
+use Rattle.vmd_format.specs.Records.{Property, bone, morph, camera, light, self-shadow, ik-state, property-head}
 use Rattle.vmd_format.specs.RecordLaws.{U32, GoodBone, bone-lawful, GoodMorph, morph-lawful, GoodCamera, camera-lawful, GoodLight, light-lawful, GoodSelfShadow, self-shadow-lawful, GoodIkState, ik-state-lawful, GoodHead, head-lawful}
 use Rattle.vmd_format.specs.Refusal.{file-ends-early}
-use Rattle.vmd_format.specs.Answer.{Answer, declined, given}
+use Rattle.vmd_format.specs.Answer.{given}
 use Rattle.vmd_format.specs.Take.{property, Take, File, take-of, magic, same, model-if, magic-if, header-if, header, sections, ended, read-file, answer, read-take, write-header, write-sections, write-take}
 
 abbrev pub GoodProperty : Property → Type 0

@@ -1,5 +1,5 @@
 -- Laws of fetching for code: where a record stands, and what is read there. Assumes nothing.
-use Prim.Native.Nat.{ℕ, zero, suc, _+_, _*_, _-_, _≤_, _<_}
+use Prim.Native.Nat.{ℕ, _+_, _*_, _-_, _≤_, _<_}
 use mathlib.Core.Path.{_≡_, refl, ap, sym, _∙_}
 use mathlib.Core.Bool.{Bool, true, false, _&&_}
 use mathlib.Core.List.{List, [], _++_}
@@ -9,15 +9,15 @@ use borrow.Author.Tests.{le-leb, lt-leb, leb-true, lt-ltb, le-ltb}
 use lib.Dec.{leb, ltb}
 use lib.ListN.{length, getD, take, drop, length-drop}
 use lib.Seq.{take-all, drop-drop}
-use Rattle.vmd_format.specs.Bytes.{u32, before-zero}
+use Rattle.vmd_format.specs.Bytes.{before-zero}
 use Rattle.vmd_format.specs.Layout.{Layout, number, byte, flag, inverted, name, raw, _⊗_, as-record}
 use Rattle.vmd_format.specs.Refusal.{Refusal, scratch-too-short, outside}
 use Rattle.vmd_format.specs.Answer.{Answer, declined, given, and-then, map-answer, unless}
-use Rattle.vmd_format.specs.Records.{Bone, Morph, Camera, Light, SelfShadow, IkState, bone, morph, camera, light, self-shadow, ik-state, property-head}
+use Rattle.vmd_format.specs.Records.{IkState, bone, morph, camera, light, self-shadow, ik-state}
 use Rattle.vmd_format.specs.Read.{Step, refused, got, Manner}
 use Rattle.vmd_format.specs.Take.{magic, same, model-if, magic-if, header-if, header}
 use Rattle.vmd_format.specs.Opening.{Part, Scan, open-file, scratch-if, scratch-after}
-use Rattle.vmd_format.specs.Places.{place-after, header-place, scan-file, next-frame, frame-places, scan-largest, open-scan, scan-scratch}
+use Rattle.vmd_format.specs.Places.{place-after, header-place, scan-file, frame-places, scan-largest, open-scan, scan-scratch}
 use Rattle.vmd_format.specs.OpeningLaws.{open-by-places, scratch-by-places}
 use Rattle.vmd_format.specs.FetchLaws.{places-length}
 use Rattle.vmd_format.specs.Fetch.{record-place, fetch, or-empty, model-in, model-of, PropertyHead, property-place, property-at, fetch-property, ik-part, fetch-ik-state}

@@ -1,11 +1,11 @@
 -- "With the file's own opening and scratch, the calls for records, names and interpolation bytes return just these, and the
 -- file's model name": what the contracts of the calls say of an accepted file, section by section and number by number.
 use Prim.Native.Nat.{ℕ, _≤_, _<_}
-use mathlib.Core.Path.{_≡_, ap, _∙_}
+use mathlib.Core.Path.{_≡_}
 use mathlib.Core.List.{List, []}
 use lib.ListN.{length, getD}
 use Rattle.vmd_format.specs.Refusal.{outside}
-use Rattle.vmd_format.specs.Answer.{Answer, declined, given, map-answer}
+use Rattle.vmd_format.specs.Answer.{declined, given, map-answer}
 use Rattle.vmd_format.specs.Records.{Bone, Morph, Camera, Light, SelfShadow, IkState, Property, bone, morph, camera, light, self-shadow}
 use Rattle.vmd_format.specs.Read.{lenient}
 use Rattle.vmd_format.specs.Take.{Take, read-take}

@@ -1,5 +1,4 @@
 -- `vmd_reader::place_of_property` meets its contract. Assumes nothing.
-use Prim.Native.Nat.{_+_, _≤_, _<_}
 use mathlib.Core.Path.{refl, sym}
 use native.Mathlib.Omega.{arith}
 use borrow.Author.Needs.{needs}
