@@ -1,0 +1,196 @@
+-- Laws of the line: decimal digits, writes one after another, rows of numbers, and the cases of a line. Assumes nothing.
+use Prim.Native.Nat.{ℕ, zero, suc, _+_, _*_, _-_, _/_, _%_, _^_, _≤_, _<_}
+use mathlib.Core.Path.{_≡_, refl, sym, ap, _∙_}
+use mathlib.Core.Bool.{Bool, true, false}
+use mathlib.Core.List.{List, [], _∷_, _++_, append-assoc, append-nil}
+use native.Mathlib.Nat.{pow-suc, lt-trans}
+use native.Mathlib.Omega.{arith}
+use borrow.Author.Tests.{lt-ltb, le-ltb, ltb-true, ltb-false, le-leb, lt-leb}
+use lib.Dec.{ltb, leb, lit<}
+use lib.ListN.{length, getD, set, take, drop, length-append}
+use lib.Seq.{take-all, length-take-le}
+use Rattle.vmd_format.specs.Refusal.{Refusal, scratch-too-short, number}
+use Rattle.vmd_format.specs.Answer.{Answer, declined, given, and-then, unless}
+use Rattle.vmd_format.specs.Read.{lenient}
+use Rattle.vmd_format.specs.Opening.{Scan, Opening, open-file, scratch-after}
+use Rattle.vmd_format.specs.Places.{scan-file, scan-largest, open-scan}
+use Rattle.vmd_format.specs.OpeningLaws.{open-by-places}
+use Rattle.vmd_bytes.specs.Slices.{splice, part}
+use Rattle.vmd_bytes.proofs.Laws.{length-splice, splice-nil, splice-append, set-splice, part-zero, part-snoc}
+use Rattle.vmd_scan.proofs.Laws.{inside-file, inside-ends}
+use Rattle.vmd_line.specs.Line.{tens-if, digits, decimal, spaced, row, too-long, refused-line, numbers, line-of, line-if, line, line-scratch-if, line-scratch}
+
+-- ---- decimal digits
+
+-- the digits do not depend on how many there may be
+digits-enough : (f g n : ℕ) → n < f → n < g → digits f n ≡ digits g n
+unfolding digits tens-if
+digits-enough zero g n h k = absurd (omega arith)
+digits-enough (suc f) zero n h k = absurd (omega arith)
+digits-enough (suc f) (suc g) n h k = ap (λ l. l ++ ((48 + n % 10) ∷ [])) (go (ltb n 10) refl (digits-enough f g (n / 10)))
+  where
+    go : (b : Bool) → ltb n 10 ≡ b → (n / 10 < f → n / 10 < g → digits f (n / 10) ≡ digits g (n / 10))
+        → tens-if b (digits f (n / 10)) ≡ tens-if b (digits g (n / 10))
+    go true e r = refl
+    go false e r = let l = ltb-false n 10 e in r (omega arith) (omega arith)
+
+-- one digit, and a digit more
+pub decimal-one : (n : ℕ) → n < 10 → decimal n ≡ (48 + n % 10) ∷ []
+unfolding decimal digits tens-if
+decimal-one n h = rw (lt-ltb n 10 h)
+
+pub decimal-more : (n : ℕ) → 10 ≤ n → decimal n ≡ decimal (n / 10) ++ ((48 + n % 10) ∷ [])
+unfolding decimal digits tens-if
+decimal-more n h = rw (le-ltb n 10 h) (ap (λ l. l ++ ((48 + n % 10) ∷ [])) (digits-enough n (suc (n / 10)) (n / 10) (omega arith) (omega arith)))
+
+length-decimal : (k n : ℕ) → n < 10 ^ suc k → length (decimal n) ≤ suc k
+length-decimal zero n h = rw (decimal-one n h) (omega arith)
+length-decimal (suc k) n h = go (ltb n 10) refl (length-decimal k (n / 10))
+  where
+    go : (b : Bool) → ltb n 10 ≡ b → (n / 10 < 10 ^ suc k → length (decimal (n / 10)) ≤ suc k) → length (decimal n) ≤ suc (suc k)
+    go true e r = rw (decimal-one n (ltb-true n 10 e)) (omega arith)
+    go false e r =
+        let p : 10 ^ suc (suc k) ≡ 10 ^ suc k * 10 = pow-suc 10 (suc k) in
+        let q : n < 10 ^ suc k * 10 = rw p at h in
+        rw (decimal-more n (ltb-false n 10 e)) (simp length-append (omega (arith, r (omega (arith, q)))))
+
+-- a number of 64 bits has at most 20 digits
+pub decimal-short : (n : ℕ) → n < 18446744073709551616 → length (decimal n) ≤ 20
+decimal-short n h = length-decimal 19 n (lt-trans h (lit< tt))
+
+-- ---- writes one after another
+
+-- vs has been written into l from `to` on: what l is then, and the place after
+pub record Wrote (l : List ℕ) (to : ℕ) (vs m : List ℕ) (at : ℕ) : Type 0 where
+  pub list : m ≡ splice l to vs
+  pub next : at ≡ to + length vs
+  pub room : at ≤ length l
+
+pub wrote-length : (l : List ℕ) (to : ℕ) (vs m : List ℕ) (at : ℕ) → Wrote l to vs m at → length m ≡ length l
+wrote-length l to vs m at w = rw (w .list) (length-splice l to vs (omega (arith, w .next, w .room)))
+
+-- what is written at the front fits, for a caller that lends it on
+pub front-fits : (l vs m : List ℕ) (r : ℕ) → m ≡ splice l 0 vs → r ≡ length vs → (r ≤ length m) × (r ≡ length (take r m))
+unfolding splice
+front-fits l vs m r e n =
+    let h : r ≤ length m = omega (arith, simp length-append at (ap length e)) in
+    (h, sym (length-take-le r m h))
+
+-- a write where another ends
+pub wrote-more : (l : List ℕ) (to : ℕ) (u v m k : List ℕ) (at end : ℕ) → Wrote l to u m at → k ≡ splice m at v → end ≡ at + length v → end ≤ length l
+    → Wrote l to (u ++ v) k end
+wrote-more l to u v m k at end w e n r = record {
+  list = e ∙ rw (w .list, w .next) (splice-append l to u v (omega (arith, w .next, w .room)));
+  next = rw length-append (omega (arith, w .next));
+  room = r;
+}
+
+-- a store where a write ends
+pub wrote-byte : (l : List ℕ) (to : ℕ) (u m : List ℕ) (at a : ℕ) → Wrote l to u m at → at < length l → Wrote l to (u ++ (a ∷ [])) (set m at a) (at + 1)
+wrote-byte l to u m at a w h =
+    wrote-more l to u (a ∷ []) m (set m at a) at (at + 1) w (set-splice m at a (rw (wrote-length l to u m at w) h)) refl (omega arith)
+
+-- nothing written yet
+pub wrote-none : (l : List ℕ) (to : ℕ) → to ≤ length l → Wrote l to [] l to
+wrote-none l to h = record { list = sym (splice-nil l to); next = omega arith; room = h }
+
+-- a number's only digit, and its last
+module _ (l : List ℕ) (to n : ℕ) (h : to + 20 ≤ length l) where
+  pub digit-one : n < 10 → Wrote l to (decimal n) (set l to (48 + n % 10)) (to + 1)
+  digit-one k = rw (decimal-one n k) (wrote-byte l to [] l to (48 + n % 10) (wrote-none l to (omega arith)) (omega arith))
+
+  pub digit-more : (m : List ℕ) (at : ℕ) → n < 18446744073709551616 → 10 ≤ n → m ≡ splice l to (decimal (n / 10)) → at ≡ to + length (decimal (n / 10))
+      → (at < length m) × Wrote l to (decimal n) (set m at (48 + n % 10)) (at + 1)
+  digit-more m at f k e q =
+      let d : decimal n ≡ decimal (n / 10) ++ ((48 + n % 10) ∷ []) = decimal-more n k in
+      let s : length (decimal (n / 10)) + 1 ≤ 20 = omega (arith, ap length d, length-append (decimal (n / 10)) ((48 + n % 10) ∷ []), decimal-short n f) in
+      let w : Wrote l to (decimal (n / 10)) m at = record { list = e; next = q; room = omega arith } in
+      (omega (arith, wrote-length l to (decimal (n / 10)) m at w), rw d (wrote-byte l to (decimal (n / 10)) m at (48 + n % 10) w (omega arith)))
+
+-- ---- rows of numbers
+
+spaced-snoc : (l : List ℕ) (n : ℕ) → spaced (l ++ (n ∷ [])) ≡ spaced l ++ (32 ∷ decimal n)
+unfolding spaced
+spaced-snoc [] n = ap (λ t. 32 ∷ t) (append-nil (decimal n))
+spaced-snoc (a ∷ l) n = ap (λ t. 32 ∷ t) (rw (spaced-snoc l n) (sym (append-assoc (decimal a) (spaced l) (32 ∷ decimal n))))
+
+-- the numbers after the first, of which i - 1 are written: a space and one more
+pub row-turn : (ns o out k : List ℕ) (from at i end : ℕ) → 1 ≤ i → i < length ns → Wrote o from (spaced (part ns 1 (i - 1))) out at → at < length o
+    → k ≡ splice (set out at 32) (at + 1) (decimal (getD ns i 0)) → end ≡ at + 1 + length (decimal (getD ns i 0)) → end ≤ length o
+    → Wrote o from (spaced (part ns 1 (i + 1 - 1))) k end
+row-turn ns o out k from at i end g h w r e n f =
+    let u = spaced (part ns 1 (i - 1)) in
+    let a : i + 1 - 1 ≡ i - 1 + 1 = omega arith in
+    let b : 1 + (i - 1) ≡ i = omega arith in
+    let p : part ns 1 (i - 1 + 1) ≡ part ns 1 (i - 1) ++ (getD ns i 0 ∷ []) = rw (part-snoc ns 1 (i - 1) (omega arith), b) in
+    rw (a, p, spaced-snoc (part ns 1 (i - 1)) (getD ns i 0), ← append-assoc u (32 ∷ []) (decimal (getD ns i 0)))
+    (wrote-more o from (u ++ (32 ∷ [])) (decimal (getD ns i 0)) (set out at 32) k (at + 1) end (wrote-byte o from u out at 32 w r) e n f)
+
+row-parts : (ns : List ℕ) → length ns ≡ 9 → row ns ≡ decimal (getD ns 0 0) ++ spaced (part ns 1 8) ++ (10 ∷ [])
+unfolding row part
+row-parts [] h = absurd (omega arith)
+row-parts (n ∷ l) h = rw (take-all 8 l (omega arith))
+
+-- the first number, the others and a line feed
+pub row-done : (l ns o out : List ℕ) (from at : ℕ) → length ns ≡ 9 → Wrote l 0 (decimal (getD ns 0 0)) o from → Wrote o from (spaced (part ns 1 8)) out at
+    → at < length l → Wrote l 0 (row ns) (set out at 10) (at + 1)
+row-done l ns o out from at h v w r =
+    rw (row-parts ns h)
+    (wrote-byte l 0 (decimal (getD ns 0 0) ++ spaced (part ns 1 8)) out at 10
+    (wrote-more l 0 (decimal (getD ns 0 0)) (spaced (part ns 1 8)) o out from at v (w .list) (w .next) (omega arith)) r)
+
+-- ---- the line of a refusal: the word, the number and a line feed
+pub refused-done : (l m k e : List ℕ) (n at to end : ℕ) → length l ≡ 256 → m ≡ splice l 0 (114 ∷ 101 ∷ 102 ∷ 117 ∷ 115 ∷ 101 ∷ 100 ∷ 32 ∷ []) → at ≡ 0 + 8
+    → k ≡ splice m at (decimal n) → to ≡ at + length (decimal n) → to ≤ at + 20 → e ≡ splice k to (10 ∷ []) → end ≡ to + 1
+    → (e ≡ splice l 0 (refused-line n)) × (end ≡ length (refused-line n))
+unfolding refused-line
+refused-done l m k e n at to end h a b p q r s t =
+    let word : List ℕ = 114 ∷ 101 ∷ 102 ∷ 117 ∷ 115 ∷ 101 ∷ 100 ∷ 32 ∷ [] in
+    let u : Wrote l 0 word m at = record { list = a; next = b; room = omega arith } in
+    let v = wrote-more l 0 word (decimal n) m k at to u p q (omega arith) in
+    let w = wrote-more l 0 (word ++ decimal n) (10 ∷ []) k e to end v s t (omega arith) in
+    (w .list, omega (arith, w .next))
+
+-- ---- the cases of a line
+
+module _ (file : List ℕ) (places : ℕ) where
+  pub line-long : 65536 < length file → line file places ≡ too-long
+  unfolding line line-if
+  line-long h = rw (lt-leb (length file) 65536 h)
+
+  module _ (h : length file ≤ 65536) where
+    pub line-refused : (k : Refusal) → declined k ≡ open-file lenient file places → line file places ≡ refused-line (number k)
+    unfolding line line-if line-of
+    line-refused k e = rw (le-leb (length file) 65536 h, ← e)
+
+    pub line-opened : (o : Opening) → given o ≡ open-file lenient file places → line file places ≡ row (numbers o)
+    unfolding line line-if line-of
+    line-opened o e = rw (le-leb (length file) 65536 h, ← e)
+
+module _ (file scratch : List ℕ) where
+  pub scratch-long : 65536 < length file → line-scratch file scratch ≡ scratch
+  unfolding line-scratch line-scratch-if
+  scratch-long h = rw (lt-leb (length file) 65536 h)
+
+  pub scratch-short : length file ≤ 65536 → line-scratch file scratch ≡ scratch-after lenient file scratch
+  unfolding line-scratch line-scratch-if
+  scratch-short h = rw (le-leb (length file) 65536 h)
+
+-- ---- an opening of the file
+
+pub opened-scan : (s : List ℕ) (places : ℕ) (o : Opening) → open-file lenient s places ≡ given o → scan-file lenient s ≡ given (o .scan)
+unfolding and-then open-scan unless
+opened-scan s places o e = go (scan-file lenient s) (sym (open-by-places lenient s places) ∙ e)
+  where
+    one : (x : Scan) (b : Bool) → unless b scratch-too-short (given (record { scan = x; largest-frame = scan-largest s x })) ≡ given o → given x ≡ given (o .scan)
+    one x true q = let z : record { scan = x; largest-frame = scan-largest s x } ≡ o = cc in ap (λ o. given (o .scan)) z
+    one x false q = let z : _≡_ {A = ℕ} 0 1 = cc in absurd (omega arith)
+
+    go : (y : Answer Scan) → and-then y (open-scan s places) ≡ given o → y ≡ given (o .scan)
+    go (declined k) q = let z : _≡_ {A = ℕ} 0 1 = cc in absurd (omega arith)
+    go (given x) q = one x (leb (x .properties .count) places) q
+
+-- its IK states are no more than the file's bytes
+pub opened-few : (s : List ℕ) (places : ℕ) (o : Opening) → length s ≤ 65536 → open-file lenient s places ≡ given o → o .scan .ik-states ≤ 65536
+opened-few s places o h e =
+    omega (arith, inside-ends s (o .scan) (inside-file lenient s (o .scan) (opened-scan s places o e)))

@@ -1,0 +1,13 @@
+-- `vmd_line::write_text` meets its contract. Assumes nothing.
+use mathlib.Core.Path.{_≡_, refl, ap, _∙_}
+use borrow.Author.Needs.{needs}
+use Rattle.vmd_bytes.specs.Slices.{splice}
+use Rattle.vmd_bytes.proofs.Laws.{part-all}
+use Rattle.vmd_line.proofs.write_text.Statement.{statement}
+use Rattle.vmd_line.proofs.write_text.Tie as tie
+
+returns : tie.Need-returns
+returns c = (c .before .before .copy-bytes .ensures ∙ ap (splice _ _) (part-all _), refl)
+
+pub write-text-spec : {M : Type 1} → statement M
+write-text-spec = tie.close (tie.spec (λ c κs. search needs) (λ c. search needs) (λ c. search needs) returns)

@@ -1,0 +1,81 @@
+-- The line that vmd-list prints for a file: document 01, "Takes to try". Definitions only.
+use Prim.Native.Nat.{ℕ, zero, suc, _+_, _/_, _%_}
+use mathlib.Core.Bool.{Bool, true, false}
+use mathlib.Core.List.{List, [], _∷_, _++_}
+use lib.ListN.{length}
+use lib.Dec.{leb, ltb}
+use Rattle.vmd_format.specs.Refusal.{number}
+use Rattle.vmd_format.specs.Answer.{Answer, declined, given}
+use Rattle.vmd_format.specs.Read.{lenient}
+use Rattle.vmd_format.specs.Opening.{Scan, Opening, open-file, scratch-after}
+use Rattle.vmd_format.specs.Join.{file-length}
+
+-- ---- numbers in ASCII
+
+-- the digits before the last: none where the number is below ten
+unfoldable pub tens-if : Bool → List ℕ → List ℕ
+tens-if true l = []
+tens-if false l = l
+
+-- the decimal digits of n, the most significant first, at most so many
+unfoldable pub digits : ℕ → ℕ → List ℕ
+digits zero n = []
+digits (suc most) n = tens-if (ltb n 10) (digits most (n / 10)) ++ ((48 + n % 10) ∷ [])
+
+-- all of them: "0" for 0, and no leading zeros
+unfoldable pub decimal : ℕ → List ℕ
+decimal n = digits (suc n) n
+
+-- each number after a space
+unfoldable pub spaced : List ℕ → List ℕ
+spaced [] = []
+spaced (n ∷ l) = 32 ∷ decimal n ++ spaced l
+
+-- numbers with single spaces between them, and a line feed
+unfoldable pub row : List ℕ → List ℕ
+row [] = 10 ∷ []
+row (n ∷ l) = decimal n ++ spaced l ++ (10 ∷ [])
+
+-- ---- the line
+
+-- "too long" and a line feed
+unfoldable pub too-long : List ℕ
+too-long = 116 ∷ 111 ∷ 111 ∷ 32 ∷ 108 ∷ 111 ∷ 110 ∷ 103 ∷ 10 ∷ []
+
+-- "refused ", a number and a line feed
+unfoldable pub refused-line : ℕ → List ℕ
+refused-line n = 114 ∷ 101 ∷ 102 ∷ 117 ∷ 115 ∷ 101 ∷ 100 ∷ 32 ∷ decimal n ++ (10 ∷ [])
+
+-- how long the export of these records is
+unfoldable pub export-size : Scan → ℕ
+export-size x =
+    file-length (x .bones .count) (x .morphs .count) (x .cameras .count) (x .lights .count) (x .self-shadows .count) (x .properties .count)
+    (x .ik-states)
+
+-- "bones, morphs, cameras, lights, self-shadows, properties, IK states, largest frame, export length"
+unfoldable pub numbers : Opening → List ℕ
+numbers o =
+    o .scan .bones .count ∷ o .scan .morphs .count ∷ o .scan .cameras .count ∷ o .scan .lights .count ∷ o .scan .self-shadows .count
+    ∷ o .scan .properties .count ∷ o .scan .ik-states ∷ o .largest-frame ∷ export-size (o .scan) ∷ []
+
+-- "A refused file prints `refused` and the number"
+unfoldable pub line-of : Answer Opening → List ℕ
+line-of (declined k) = refused-line (number k)
+line-of (given o) = row (numbers o)
+
+-- the line where the file is short enough, and where it is not
+unfoldable pub line-if : Bool → List ℕ → ℕ → List ℕ
+line-if true file places = line-of (open-file lenient file places)
+line-if false file places = too-long
+
+-- "reads standard input of up to 65,536 bytes, opens it with scratch enough and prints one line"
+unfoldable pub line : List ℕ → ℕ → List ℕ
+line file places = line-if (leb (length file) 65536) file places
+
+-- the scratch that the line leaves: that of opening, and all of it where the file is too long
+unfoldable pub line-scratch-if : Bool → List ℕ → List ℕ → List ℕ
+line-scratch-if true file scratch = scratch-after lenient file scratch
+line-scratch-if false file scratch = scratch
+
+unfoldable pub line-scratch : List ℕ → List ℕ → List ℕ
+line-scratch file scratch = line-scratch-if (leb (length file) 65536) file scratch

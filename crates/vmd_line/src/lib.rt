@@ -1,0 +1,132 @@
+// The line that vmd-list prints for a file, on slices.
+use vmd_reader::VmdOpened;
+use vmd_reader::VmdOpening;
+use vmd_scan::VmdSections;
+ghost use mathlib.Core.Path.{_≡_};
+ghost use Prim.Native.Nat.{_+_, _%_, _≤_};
+ghost use lib.ListN.{length};
+ghost use Rattle.vmd_bytes.specs.Slices.{splice};
+ghost use Rattle.vmd_scan.specs.Meaning.{scan-is};
+ghost use Rattle.vmd_reader.specs.Meaning.{opening-is};
+ghost use Rattle.vmd_line.specs.Line.{decimal, row, refused-line, export-size, numbers, line, line-scratch};
+
+// The longest file that is listed.
+const MOST_BYTES: usize = 65536;
+
+const LINE_SIZE: usize = 256;
+
+// The last digit of n, in ASCII.
+fn digit(n: u64) -> u8
+    ensures { λ r. ⌜ r ≡ 48 + n % 10 ⌝ }
+{
+    48 + (n % 10) as u8
+}
+
+// Writes n in decimal into out from `to` on, and returns the place after it.
+fn write_decimal(out: &mut [u8], to: usize, n: u64) -> usize
+    requires { ⌜ to + 20 ≤ length (now out) ⌝ }
+    ensures { λ _. ⌜ now (out .exit) ≡ splice (now (out .entry)) to (decimal n) ⌝ }
+    ensures { λ r. ⌜ r ≡ to + length (decimal n) ⌝ }
+    ensures { λ r. ⌜ r ≤ to + 20 ⌝ }
+{
+    if n < 10 {
+        out[to] = digit(n);
+        return to + 1;
+    }
+    let tens = n / 10;
+    let at = write_decimal(out, to, tens);
+    out[at] = digit(n);
+    at + 1
+}
+
+// Writes text into out from `to` on, and returns the place after it.
+fn write_text(out: &mut [u8], to: usize, text: &[u8]) -> usize
+    requires { ⌜ to + length (now text) ≤ length (now out) ⌝ }
+    ensures { λ _. ⌜ now (out .exit) ≡ splice (now (out .entry)) to (now (text .entry)) ⌝ }
+    ensures { λ r. ⌜ r ≡ to + length (now (text .entry)) ⌝ }
+{
+    let n = text.len();
+    vmd_bytes::copy_bytes(text, 0, out, to, n);
+    to + n
+}
+
+// Writes nine numbers with single spaces between them and a line feed, and returns their length.
+fn write_row(out: &mut [u8], numbers: &[u64]) -> usize
+    requires { ⌜ (length (now out) ≡ 256) × (length (now numbers) ≡ 9) ⌝ }
+    ensures { λ _. ⌜ now (out .exit) ≡ splice (now (out .entry)) 0 (row (now (numbers .entry))) ⌝ }
+    ensures { λ r. ⌜ r ≡ length (row (now (numbers .entry))) ⌝ }
+{
+    let mut at = write_decimal(out, 0, numbers[0]);
+    let mut i = 1;
+    while i < 9 {
+        out[at] = b' ';
+        at = write_decimal(out, at + 1, numbers[i]);
+        i += 1;
+    }
+    out[at] = b'\n';
+    at + 1
+}
+
+// Writes the line of a refusal, and returns its length.
+fn write_refused(out: &mut [u8], number: u32) -> usize
+    requires { ⌜ length (now out) ≡ 256 ⌝ }
+    ensures { λ _. ⌜ now (out .exit) ≡ splice (now (out .entry)) 0 (refused-line number) ⌝ }
+    ensures { λ r. ⌜ r ≡ length (refused-line number) ⌝ }
+{
+    let at = write_text(out, 0, b"refused ");
+    let end = write_decimal(out, at, number as u64);
+    write_text(out, end, b"\n")
+}
+
+// How long the export is. Few IK states, so that the sum fits.
+fn export_size(sections: VmdSections) -> u64
+    requires { ⌜ sections .«ik_states» ≤ 65536 ⌝ }
+    ensures { λ r. ⌜ r ≡ export-size (scan-is sections) ⌝ }
+{
+    74
+        + 111 * (sections.bones.count as u64)
+        + 23 * (sections.morphs.count as u64)
+        + 61 * (sections.cameras.count as u64)
+        + 28 * (sections.lights.count as u64)
+        + 9 * (sections.self_shadows.count as u64)
+        + 9 * (sections.properties.count as u64)
+        + 21 * sections.ik_states
+}
+
+// The nine numbers of an opening.
+fn numbers_of(opening: VmdOpening) -> [u64; 9]
+    requires { ⌜ opening .sections .«ik_states» ≤ 65536 ⌝ }
+    ensures { λ r. ⌜ r ≡ numbers (opening-is opening) ⌝ }
+{
+    let sections = opening.sections;
+    let size = export_size(sections);
+    [
+        sections.bones.count as u64,
+        sections.morphs.count as u64,
+        sections.cameras.count as u64,
+        sections.lights.count as u64,
+        sections.self_shadows.count as u64,
+        sections.properties.count as u64,
+        sections.ik_states,
+        opening.max_frame as u64,
+        size,
+    ]
+}
+
+// Writes the line of a file at the front of out, and returns its length. scratch is left as opening leaves it.
+pub fn list_line(file: &[u8], scratch: &mut [u64], out: &mut [u8; LINE_SIZE]) -> usize
+    ensures { λ _. ⌜ now (out .exit) ≡ splice (now (out .entry)) 0 (line (now (file .entry)) (length (now (scratch .entry)))) ⌝ }
+    ensures { λ r. ⌜ r ≡ length (line (now (file .entry)) (length (now (scratch .entry)))) ⌝ }
+    ensures { λ _. ⌜ now (scratch .exit) ≡ line-scratch (now (file .entry)) (now (scratch .entry)) ⌝ }
+{
+    if MOST_BYTES < file.len() {
+        return write_text(out, 0, b"too long\n");
+    }
+    match vmd_reader::parse_vmd_animation(file, scratch) {
+        VmdOpened::Refused(k) => write_refused(out, k.number()),
+        VmdOpened::Opened(opening) => {
+            let numbers = numbers_of(opening);
+            write_row(out, &numbers)
+        }
+    }
+}
