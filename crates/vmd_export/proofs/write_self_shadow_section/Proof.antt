@@ -1,0 +1,39 @@
+-- `vmd_export::write_self_shadow_section` meets its contract. Assumes nothing.
+use native.Mathlib.Omega.{arith}
+use borrow.Author.Needs.{needs}
+use Rattle.vmd_writers.proofs.Sections.{self-shadow-sized}
+use Rattle.vmd_export.proofs.Laws.{records-room, records-wrote}
+use Rattle.vmd_export.proofs.write_self_shadow_section.Statement.{statement}
+use Rattle.vmd_export.proofs.write_self_shadow_section.Tie as tie
+
+write-u32-le-requires : tie.Need-write-u32-le-requires
+write-u32-le-requires c κs =
+    let s = c .before .before .before .before .before .before .before .before in
+    omega (arith, records-room self-shadow-sized _ _ _ _ (s .pre .1))
+
+write-self-shadows-requires : tie.Need-write-self-shadows-requires
+write-self-shadows-requires c κs =
+    let n = c .before .before .before in
+    let s = n .before .before .before .before .before .before .before .before .before in
+    omega (arith, s .pre .0, records-room self-shadow-sized _ _ _ _ (s .pre .1), n .write-u32-le .kept .0)
+
+write-self-shadows-requires-2 : tie.Need-write-self-shadows-requires-2
+write-self-shadows-requires-2 c κs =
+    let a = c .before .before .before in
+    let n = a .before .before .before .before in
+    let s = n .before .before .before .before .before .before .before .before .before in
+    omega (arith, s .pre .0, records-room self-shadow-sized _ _ _ _ (s .pre .1), n .write-u32-le .kept .0, a .write-self-shadows .kept .1 .1 .0)
+
+returns : tie.Need-returns
+returns c =
+    let b = c .before .before in
+    let a = b .before .before .before .before in
+    let n = a .before .before .before .before in
+    let s = n .before .before .before .before .before .before .before .before .before in
+    records-wrote self-shadow-sized _ _ _ _ (s .pre .1) (n .write-u32-le .ensures) (a .write-self-shadows .ensures) (b .write-self-shadows2 .ensures)
+
+pub write-self-shadow-section-spec : {M : Type 1} → statement M
+write-self-shadow-section-spec =
+    tie.close (tie.spec
+    (λ c. search needs) (λ c. search needs) (λ c. search needs) (λ c. search needs) (λ c. search needs) (λ c. search needs)
+    write-u32-le-requires write-self-shadows-requires write-self-shadows-requires-2 (λ c. search needs) (λ c. search needs) (λ c. search needs) returns)

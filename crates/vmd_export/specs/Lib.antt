@@ -1,0 +1,4 @@
+pub mod Meaning
+pub mod Saved
+pub mod Together
+pub mod Demand3
