@@ -1,0 +1,32 @@
+-- `vmd_checks::count_frames` meets its contract. Assumes nothing.
+use Prim.Native.Nat.{_-_, _+_, _*_}
+use mathlib.Core.Path.{_≡_}
+use native.Mathlib.Omega.{arith}
+use lib.ListN.{length}
+use Rattle.vmd_checks.proofs.Properties.{Passed, passed-start, passed-short, passed-over, passed-turn, passed-end}
+use Rattle.vmd_checks.proofs.count_frames.Statement.{statement}
+use Rattle.vmd_checks.proofs.count_frames.Tie as tie
+
+abbrev Inv-loop : tie.InvT-loop
+Inv-loop bytes at₀ n₀ at n = Passed bytes at n
+
+abbrev μ-loop : tie.MeasureT-loop
+μ-loop bytes at₀ n₀ at n = length bytes - at
+
+returns : tie.Need-returns Inv-loop μ-loop
+returns c = passed-short (c .before .before .loop .inv) (omega arith) (omega arith)
+
+returns-2 : tie.Need-returns-2 Inv-loop μ-loop
+returns-2 c =
+    let r = c .before in
+    passed-over (r .before .before .before .loop .inv) (r .read-u32-le .ensures) (omega arith) (omega arith)
+
+loop-again : tie.Need-loop-again Inv-loop μ-loop
+loop-again c =
+    let r = c .before in
+    passed-turn (r .before .before .before .loop .inv) (r .read-u32-le .ensures) (omega arith)
+
+pub count-frames-spec : {M : Type 1} → statement M
+count-frames-spec =
+    tie.close (tie.spec Inv-loop μ-loop (λ c. passed-start) (λ c. omega arith) returns (λ c. omega arith) (λ c κs. omega arith) (λ c. omega arith) (λ c. omega arith) (λ c. omega arith) (λ c. omega arith) returns-2
+    (λ c. omega arith) (λ c. omega arith) (λ c. omega (arith, c .before .before .before .before .loop .inv .few)) (λ c. omega arith) loop-again (λ c. passed-end (c .before .loop .inv) (omega arith)))

@@ -1,0 +1,53 @@
+-- `vmd_names::first_fault` meets its contract. The invariant: all before i is good. Assumes nothing.
+use mathlib.Core.Path.{_∙_, sym}
+use Prim.Native.Nat.{_≤_, _-_}
+use native.Mathlib.Omega.{arith}
+use lib.ListN.{length, drop}
+use Rattle.vmd_format.specs.Names.{fault}
+use Rattle.vmd_format.specs.NamesLaws.{GoodTo, fault-start, fault-stop, unit-end}
+use Rattle.vmd_names.proofs.Names.{unit-within, good-turn}
+use Rattle.vmd_names.proofs.first_fault.Statement.{statement}
+use Rattle.vmd_names.proofs.first_fault.Tie as tie
+
+abbrev Inv-loop : tie.InvT-loop
+Inv-loop bytes i₀ i = (i ≤ length bytes) × GoodTo bytes i
+
+abbrev μ-loop : tie.MeasureT-loop
+μ-loop bytes i₀ i = length bytes - i
+
+loop-holds : tie.Need-loop-holds Inv-loop μ-loop
+loop-holds c = (omega arith, fault-start (c .before .args .bytes .now))
+
+returns : tie.Need-returns Inv-loop μ-loop
+returns c =
+    let u = c .before in
+    let l = u .before .before in
+    sym (fault-stop (l .before .before .args .bytes .now) (l .loop .i) (l .loop .inv .1) (sym (u .unit-at .ensures) ∙ c .if1 .taken))
+
+add-i : tie.Need-add-i Inv-loop μ-loop
+add-i c =
+    let u = c .before in
+    let l = u .before .before in
+    omega (arith, unit-within (l .before .before .args .bytes .now) (l .loop .i) (u .unit-at .ensures) (l .loop .inv .0))
+
+loop-less : tie.Need-loop-less Inv-loop μ-loop
+loop-less c = omega arith
+
+loop-again : tie.Need-loop-again Inv-loop μ-loop
+loop-again c =
+    let u = c .before in
+    let l = u .before .before in
+    let s = l .before .before .args .bytes .now in (
+      omega (arith, unit-within s (l .loop .i) (u .unit-at .ensures) (l .loop .inv .0)),
+      good-turn s (l .loop .i) (u .unit-at .ensures) (omega arith) (l .loop .inv .1),
+    )
+
+returns-2 : tie.Need-returns-2 Inv-loop μ-loop
+returns-2 c =
+    let l = c .before in
+    let s = l .before .before .args .bytes .now in
+    sym (fault-stop s (l .loop .i) (l .loop .inv .1) (unit-end s (l .loop .i) (c .loop-test .left)))
+
+pub first-fault-spec : {M : Type 1} → statement M
+first-fault-spec =
+    tie.close (tie.spec Inv-loop μ-loop loop-holds (λ c κs. omega arith) returns add-i loop-less loop-again returns-2)

@@ -1,0 +1,147 @@
+-- Laws of bones and morphs from their columns: what stands at an index, its bytes, and a loop that writes them. Assumes nothing.
+use Prim.Native.Nat.{ℕ, zero, suc, _+_, _-_, _*_, _≤_, _<_}
+use mathlib.Core.Path.{_≡_, refl, ap, sym, _∙_}
+use mathlib.Core.Bool.{true, _&&_, and-eq-true-iff}
+use mathlib.Core.List.{List, [], _∷_, _++_, map}
+use native.Mathlib.Nat.{zero-mul, sub-zero}
+use native.Mathlib.Numerals.{add-one}
+use native.Mathlib.Omega.{arith}
+use borrow.Author.Tests.{ltb-true}
+use lib.ListN.{length, getD, take, drop, length-drop}
+use lib.Seq.{take-all, length-take-le}
+use lib.Dec.{ltb}
+use lib.Ieee.{Float, nan, binary32, toBits}
+use Rattle.vmd_format.specs.Bytes.{u32-bytes, padded}
+use Rattle.vmd_format.specs.Layout.{number, name, raw, _⊗_, as-record}
+use Rattle.vmd_format.specs.Refusal.{name-index-too-large, not-finite}
+use Rattle.vmd_format.specs.Records.{bone, morph}
+use Rattle.vmd_format.specs.Read.{write-all}
+use Rattle.vmd_format.specs.Parts.{NameTable, Check, passes, _next_, need, each, finite, all-finite, names-of, upto}
+use Rattle.vmd_format.specs.PartsLaws.{all-at, upto-length, next-passes, need-passes, each-passes}
+use Rattle.vmd_bytes.specs.Slices.{splice, part}
+use Rattle.vmd_bytes.proofs.Laws.{splice-nil, part-cons, padded-long}
+use Rattle.vmd_writers.proofs.Sections.{rest-written}
+use Rattle.vmd_checks.specs.Meaning.{bits}
+use Rattle.vmd_checks.specs.Stages.{bone-right, morph-right}
+use Rattle.vmd_parts.specs.Stages.{BoneThere, bone-bytes, BonesFit, bone-of, MorphsFit, morph-of}
+use Rattle.vmd_checks.proofs.Columns.{bits-at}
+
+-- ---- what the checks say of an index
+
+upto-at : (j n i d : ℕ) → i < n → getD (upto j n) i d ≡ j + i
+unfolding upto
+upto-at j zero i d h = absurd (omega arith)
+upto-at j (suc n) zero d h = omega arith
+upto-at j (suc n) (suc i) d h = upto-at (suc j) n i d (omega arith) ∙ omega arith
+
+each-at : (f : ℕ → Check) (n i : ℕ) → i < n → each f (upto 0 n) ≡ passes → f i ≡ passes
+each-at f n i h e =
+    let q : getD (upto 0 n) i 0 ≡ i = upto-at 0 n i 0 h ∙ omega arith in
+    rw q at (all-at (λ a. f a ≡ passes) (upto 0 n) i 0 (omega (arith, upto-length 0 n)) (each-passes f (upto 0 n) e))
+
+module _ {t : NameTable} {x f u r a : List ℕ} (g : BonesFit t x f u r a) (i : ℕ) (h : i < length x) where
+  here : bone-right x (length (t .ends)) u r i ≡ passes
+  here = each-at (bone-right x (length (t .ends)) u r) (length x) i h (g .right)
+
+  pub bone-index : getD x i 0 < length (t .ends)
+  unfolding bone-right
+  bone-index = ltb-true (getD x i 0) (length (t .ends)) (need-passes _ name-index-too-large (next-passes here .0))
+
+  pub bone-there : BoneThere u r a i
+  unfolding bone-right
+  bone-there =
+      let b = and-eq-true-iff (all-finite (take 3 (drop (3 * i) u))) (all-finite (take 4 (drop (4 * i) r))) .0 (need-passes _ not-finite (next-passes here .1)) in
+      record {
+        translation = omega (arith, g .translated);
+        rotation = omega (arith, g .rotated);
+        interpolation = omega (arith, g .interpolated);
+        translation-finite = b .0;
+        rotation-finite = b .1;
+      }
+
+module _ {t : NameTable} {x f : List ℕ} (w : List Float) (g : MorphsFit t x f (bits w)) (i : ℕ) (h : i < length x) where
+  morph-here : morph-right x (length (t .ends)) (bits w) i ≡ passes
+  morph-here = each-at (morph-right x (length (t .ends)) (bits w)) (length x) i h (g .right)
+
+  pub morph-index : getD x i 0 < length (t .ends)
+  unfolding morph-right
+  morph-index = ltb-true (getD x i 0) (length (t .ends)) (need-passes _ name-index-too-large (next-passes morph-here .0))
+
+  pub morph-finite : i < length w → finite (toBits binary32 (getD w i nan)) ≡ true
+  unfolding morph-right
+  morph-finite k = rw (bits-at w i k) at (need-passes _ not-finite (next-passes morph-here .1))
+
+-- ---- the bytes of a record
+
+three : (l : List ℕ) (k : ℕ) → k + 3 ≤ length l → take 3 (drop k l) ≡ getD l k 0 ∷ getD l (k + 1) 0 ∷ getD l (k + 2) 0 ∷ []
+unfolding part
+three l k h =
+    let e : k + 1 + 1 ≡ k + 2 = omega arith in
+    part-cons l k 2 (omega arith) ∙ rw (part-cons l (k + 1) 1 (omega arith), part-cons l (k + 1 + 1) 0 (omega arith), e)
+
+four : (l : List ℕ) (k : ℕ) → k + 4 ≤ length l → take 4 (drop k l) ≡ getD l k 0 ∷ getD l (k + 1) 0 ∷ getD l (k + 2) 0 ∷ getD l (k + 3) 0 ∷ []
+unfolding part
+four l k h =
+    let e : k + 1 + 1 ≡ k + 2 = omega arith in
+    let f : k + 1 + 1 + 1 ≡ k + 3 = omega arith in
+    part-cons l k 3 (omega arith)
+    ∙ rw (part-cons l (k + 1) 2 (omega arith), part-cons l (k + 1 + 1) 1 (omega arith), part-cons l (k + 1 + 1 + 1) 0 (omega arith), f, e)
+
+whole-field : (n : ℕ) (l : List ℕ) → n ≤ length l → padded n (take n l) ≡ take n l
+whole-field n l h =
+    let k : length (take n l) ≡ n = length-take-le n l h in
+    padded-long n (take n l) (omega arith) ∙ take-all n (take n l) (omega arith)
+
+pub bone-is : {s : List ℕ} (t : NameTable) (x f u r a : List ℕ) (i : ℕ) → BoneThere u r a i → s ≡ getD (names-of t) (getD x i 0) []
+    → bone-bytes s (getD f i 0) u r a i ≡ bone .encode (bone-of t x f u r a i)
+unfolding bone-bytes bone-of bone as-record _⊗_ name number raw write-all u32-bytes
+bone-is t x f u r a i b e =
+    rw (e, three u (3 * i) (b .translation), four r (4 * i) (b .rotation), whole-field 64 (drop (64 * i) a) (rw length-drop (omega (arith, b .interpolation))))
+
+pub morph-is : {s : List ℕ} (t : NameTable) (x f : List ℕ) (w : List Float) (i : ℕ) → i < length w → s ≡ getD (names-of t) (getD x i 0) []
+    → padded 15 s ++ (u32-bytes (getD f i 0) ++ u32-bytes (toBits binary32 (getD w i nan))) ≡ morph .encode (morph-of t x f (bits w) i)
+unfolding morph-of morph as-record _⊗_ name number
+morph-is t x f w i h e = rw (e, bits-at w i h)
+
+-- ---- a loop that writes a record for each index
+
+pub record Filling {A : Type 0} (e : A → List ℕ) (w : ℕ) (f : ℕ → A) (n : ℕ) (out₀ : List ℕ) (to : ℕ) (out : List ℕ) (i q : ℕ) : Type 0 where
+  pub inside : i ≤ n
+  pub room : q + (n - i) * w ≤ length out
+  pub kept : length out ≡ length out₀
+  pub whole : splice out q (write-all e (map f (upto i (n - i)))) ≡ splice out₀ to (write-all e (map f (upto 0 n)))
+
+module _ {A : Type 0} {e : A → List ℕ} {w : ℕ} {f : ℕ → A} {n : ℕ} {out₀ : List ℕ} {to : ℕ} where
+  pub filling-start : to + n * w ≤ length out₀ → Filling e w f n out₀ to out₀ 0 to
+  filling-start h = record { inside = omega arith; room = rw sub-zero h; kept = refl; whole = rw sub-zero }
+
+  module _ {out : List ℕ} {i q : ℕ} (g : Filling e w f n out₀ to out i q) where
+    more : i < n → n - i ≡ suc (n - (i + 1))
+    more h = omega arith
+
+    less : i < n → (n - i) * w ≡ w + (n - (i + 1)) * w
+    less h = ap (λ x. x * w) (more h) ∙ omega arith
+
+    pub filling-room : i < n → q + w ≤ length out
+    filling-room h = omega (arith, g .room, less h)
+
+    pub filling-turn : {o v : List ℕ} → i < n → length (e (f i)) ≡ w → length o ≡ length out → o ≡ splice out q v → v ≡ e (f i)
+        → Filling e w f n out₀ to o (i + 1) (q + w)
+    unfolding upto
+    filling-turn h k l d z = record {
+      inside = omega arith;
+      room = omega (arith, g .room, less h);
+      kept = l ∙ g .kept;
+      whole =
+          rw (d, z) (rest-written e (f i) (map f (upto (i + 1) (n - (i + 1)))) out q w k (filling-room h))
+          ∙ ap (λ x. splice out q (write-all e (e-cons x))) (add-one i) ∙ ap (λ x. splice out q (write-all e (map f (upto i x)))) (sym (more h)) ∙ g .whole;
+    }
+      where
+        e-cons : ℕ → List A
+        e-cons x = f i ∷ map f (upto x (n - (i + 1)))
+
+    pub filling-end : n ≤ i → out ≡ splice out₀ to (write-all e (map f (upto 0 n)))
+    unfolding upto write-all
+    filling-end h =
+        let z : n - i ≡ 0 = omega arith in
+        sym (splice-nil out q) ∙ rw z at (g .whole)

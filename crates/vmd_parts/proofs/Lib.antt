@@ -1,0 +1,4 @@
+pub mod Size
+pub mod Writing
+pub mod Filling
+pub mod File

@@ -1,0 +1,155 @@
+-- Laws of writing what the parts mean: the header, floats, records from columns, and sections. Assumes nothing.
+use Prim.Native.Nat.{ℕ, zero, suc, _+_, _-_, _*_, _/_, _%_, _≤_, _<_}
+use mathlib.Core.Path.{_≡_, refl, ap, ap₂, sym, _∙_}
+use mathlib.Core.Bool.{Bool, true, false, _&&_, and-eq-true-iff}
+use mathlib.Core.List.{List, [], _∷_, _++_, append-assoc, append-nil, map}
+use native.Mathlib.Nat.{zero-add}
+use native.Mathlib.Omega.{arith}
+use lib.ListN.{length, getD, take, drop, length-append, length-take, length-drop, length-map}
+use lib.Ieee.{Float, nan, binary32, toBits}
+use Rattle.vmd_format.specs.Bytes.{u32-bytes, padded}
+use Rattle.vmd_format.specs.BytesLaws.{padded-length}
+use Rattle.vmd_format.specs.Layout.{Layout}
+use Rattle.vmd_format.specs.Records.{Property}
+use Rattle.vmd_format.specs.Read.{table, fixed, write-all, write-counted}
+use Rattle.vmd_format.specs.Take.{property, magic, write-header}
+use Rattle.vmd_format.specs.Lengths.{property-length}
+use Rattle.vmd_format.specs.Opening.{ik-total}
+use Rattle.vmd_format.specs.Places.{Reaches}
+use Rattle.vmd_format.specs.PlacesLaws.{table-length, frames-in}
+use Rattle.vmd_format.specs.Parts.{finite, all-finite, records-of, frames, properties-of, is-got}
+use Rattle.vmd_bytes.specs.Slices.{splice, part}
+use Rattle.vmd_bytes.proofs.Laws.{splice-nil, splice-append-at, length-u32-bytes, length-part}
+use Rattle.vmd_writers.proofs.Sections.{Sized, rest-written}
+use Rattle.vmd_checks.specs.Meaning.{bits}
+use Rattle.vmd_parts.specs.Stages.{BoneThere, bone-bytes}
+use Rattle.vmd_checks.proofs.Columns.{bits-cons}
+use Rattle.vmd_checks.proofs.Properties.{properties-framed}
+use Rattle.vmd_checks.proofs.Whole.{records-length}
+use Rattle.vmd_parts.proofs.Size.{properties-total}
+
+-- ---- the header
+
+pub header-written : {x o : List ℕ} (m l : List ℕ) → 50 ≤ length l
+    → x ≡ splice l 0 (magic ++ (0 ∷ 0 ∷ 0 ∷ 0 ∷ [])) → o ≡ splice x 30 (padded 20 m) → o ≡ splice l 0 (write-header m)
+unfolding write-header magic
+header-written m l h e f = f ∙ rw e (splice-append-at l 0 (magic ++ (0 ∷ 0 ∷ 0 ∷ 0 ∷ [])) (padded 20 m) 30 refl (omega arith))
+
+-- ---- floats
+
+floats-length : (n : ℕ) (l : List ℕ) → n ≤ length l → length (write-all u32-bytes (take n l)) ≡ n * 4
+unfolding write-all
+floats-length zero l h = omega arith
+floats-length (suc n) [] h = absurd (omega arith)
+floats-length (suc n) (a ∷ l) h = length-append (u32-bytes a) (write-all u32-bytes (take n l)) ∙ omega (arith, length-u32-bytes a, floats-length n l (omega arith))
+
+-- What holds before each turn of a loop that writes n floats: those that are left are finite and have room, and to write
+-- them makes up the whole.
+pub record Pouring (xs : List Float) (at n : ℕ) (out₀ : List ℕ) (to : ℕ) (out : List ℕ) (p q left : ℕ) : Type 0 where
+  pub lie : p + left ≤ length xs
+  pub room : q + left * 4 ≤ length out
+  pub kept : length out ≡ length out₀
+  pub fine : all-finite (take left (drop p (bits xs))) ≡ true
+  pub whole : splice out q (write-all u32-bytes (take left (drop p (bits xs)))) ≡ splice out₀ to (write-all u32-bytes (take n (drop at (bits xs))))
+
+module _ {xs : List Float} {at n : ℕ} {out₀ : List ℕ} {to : ℕ} where
+  pub pouring-start : at + n ≤ length xs → to + n * 4 ≤ length out₀ → all-finite (take n (drop at (bits xs))) ≡ true → Pouring xs at n out₀ to out₀ at to n
+  pouring-start h r f = record { lie = h; room = r; kept = refl; fine = f; whole = refl }
+
+  module _ {out : List ℕ} {p q left : ℕ} (g : Pouring xs at n out₀ to out p q left) (h : 0 < left) where
+    one : take left (drop p (bits xs)) ≡ toBits binary32 (getD xs p nan) ∷ take (left - 1) (drop (p + 1) (bits xs))
+    one =
+        let d : left ≡ suc (left - 1) = omega arith in
+        ap (λ i. take i (drop p (bits xs))) d ∙ rw (bits-cons xs p (omega (arith, g .lie)))
+
+    fine-now : (finite (toBits binary32 (getD xs p nan)) && all-finite (take (left - 1) (drop (p + 1) (bits xs)))) ≡ true
+    unfolding all-finite
+    fine-now = rw one at (g .fine)
+
+    pub pouring-fine : finite (toBits binary32 (getD xs p nan)) ≡ true
+    pouring-fine = and-eq-true-iff _ (all-finite (take (left - 1) (drop (p + 1) (bits xs)))) .0 fine-now .0
+
+    pub pouring-turn : {next : List ℕ} {v : ℕ} → v ≡ toBits binary32 (getD xs p nan) → length next ≡ length out → next ≡ splice out q (u32-bytes v)
+        → Pouring xs at n out₀ to next (p + 1) (q + 4) (left - 1)
+    pouring-turn {next} {v} e k w = record {
+      lie = omega (arith, g .lie);
+      room = omega (arith, g .room);
+      kept = k ∙ g .kept;
+      fine = and-eq-true-iff (finite (toBits binary32 (getD xs p nan))) _ .0 fine-now .1;
+      whole =
+          rw (w, e) (rest-written u32-bytes (toBits binary32 (getD xs p nan)) (take (left - 1) (drop (p + 1) (bits xs))) out q 4 (length-u32-bytes _) (omega (arith, g .room)))
+          ∙ ap (λ l. splice out q (write-all u32-bytes l)) (sym one) ∙ g .whole;
+    }
+
+  pub pouring-end : {out : List ℕ} {p q left : ℕ} → Pouring xs at n out₀ to out p q left → left ≡ 0 → out ≡ splice out₀ to (write-all u32-bytes (take n (drop at (bits xs))))
+  unfolding write-all
+  pouring-end {out} {p} {q} g e = sym (splice-nil out q) ∙ rw e at (g .whole)
+
+-- ---- fields one after another
+
+-- a name, a number and then more
+named-at : {x y o : List ℕ} (s : List ℕ) (v : ℕ) (u l : List ℕ) (to : ℕ) → to + 19 ≤ length l
+    → x ≡ splice l to (padded 15 s) → y ≡ splice x (to + 15) (u32-bytes v) → o ≡ splice y (to + 19) u
+    → o ≡ splice l to (padded 15 s ++ (u32-bytes v ++ u))
+named-at s v u l to h e f g =
+    let k : length (padded 15 s ++ u32-bytes v) ≡ 19 = length-append (padded 15 s) (u32-bytes v) ∙ omega (arith, padded-length 15 s, length-u32-bytes v) in
+    g
+    ∙ rw (f, e, splice-append-at l to (padded 15 s) (u32-bytes v) 15 (padded-length 15 s) (omega arith), splice-append-at l to (padded 15 s ++ u32-bytes v) u 19 k h)
+    (ap (splice l to) (append-assoc (padded 15 s) (u32-bytes v) u))
+
+pub morph-written : {x y o : List ℕ} {b : ℕ} (s : List ℕ) (v : ℕ) (w : Float) (l : List ℕ) (to : ℕ) → to + 23 ≤ length l
+    → x ≡ splice l to (padded 15 s) → y ≡ splice x (to + 15) (u32-bytes v) → b ≡ toBits binary32 w → o ≡ splice y (to + 19) (u32-bytes b)
+    → o ≡ splice l to (padded 15 s ++ (u32-bytes v ++ u32-bytes (toBits binary32 w)))
+morph-written s v w l to h e f q g = named-at s v (u32-bytes (toBits binary32 w)) l to (omega arith) e f (g ∙ rw q)
+
+pub bone-written : {x y z w o : List ℕ} (s : List ℕ) (v : ℕ) (t r a : List ℕ) (i : ℕ) (l : List ℕ) (to : ℕ) → BoneThere t r a i → to + 111 ≤ length l
+    → x ≡ splice l to (padded 15 s) → y ≡ splice x (to + 15) (u32-bytes v) → z ≡ splice y (to + 19) (write-all u32-bytes (take 3 (drop (3 * i) t)))
+    → w ≡ splice z (to + 31) (write-all u32-bytes (take 4 (drop (4 * i) r))) → o ≡ splice w (to + 47) (part a (64 * i) 64)
+    → length y ≡ length l
+    → o ≡ splice l to (bone-bytes s v t r a i)
+unfolding bone-bytes part
+bone-written {y = y} s v t r a i l to b h e f g j k n =
+    let u : List ℕ = write-all u32-bytes (take 3 (drop (3 * i) t)) in
+    let m : List ℕ = write-all u32-bytes (take 4 (drop (4 * i) r)) in
+    let lu : length u ≡ 12 = floats-length 3 (drop (3 * i) t) (rw length-drop (omega (arith, b .translation))) in
+    let lm : length m ≡ 16 = floats-length 4 (drop (4 * i) r) (rw length-drop (omega (arith, b .rotation))) in
+    let lum : length (u ++ m) ≡ 28 = length-append u m ∙ omega arith in
+    let p : to + 31 ≡ to + 19 + 12 = omega arith in
+    let q : to + 47 ≡ to + 19 + 28 = omega arith in
+    named-at s v (u ++ (m ++ take 64 (drop (64 * i) a))) l to (omega arith) e f
+    (k ∙ rw (j, g, p, q, splice-append-at y (to + 19) u m 12 lu (omega arith), splice-append-at y (to + 19) (u ++ m) (take 64 (drop (64 * i) a)) 28 lum (omega arith), append-assoc))
+
+-- ---- sections
+
+pub section-written : {A : Type 0} {K : Layout A} {w : ℕ} {x o : List ℕ} → Sized K w → (s l : List ℕ) (at : ℕ) → at + 4 ≤ length l
+    → x ≡ splice l at (u32-bytes (length s / w)) → o ≡ splice x (at + 4) (write-all (K .encode) (table K (length s / w) s))
+    → o ≡ splice l at (write-counted (fixed K) (records-of K s))
+unfolding write-counted fixed records-of u32-bytes
+section-written {K = K} {w} k s l at h e f =
+    f
+    ∙ rw (e, splice-append-at l at (u32-bytes (length s / w)) (write-all (K .encode) (table K (length s / w) s)) 4 refl h)
+    (rw (table-length K (length s / K .size) s, k .size))
+
+properties-length : (s : List ℕ) (n : ℕ) → is-got (frames s) ≡ true → n ≡ length (properties-of s)
+    → length (write-all (property .write) (frames-in s n 0)) ≡ length s
+unfolding write-counted
+properties-length s n e q =
+    let f = properties-framed s e in
+    let g : frames-in s n 0 ≡ properties-of s = rw q (sym (f .are)) in
+    rw g (omega (arith, property-length (properties-of s), length-append (u32-bytes (length (properties-of s))) (write-all (property .write) (properties-of s)), length-u32-bytes (length (properties-of s)), properties-total s e))
+
+pub properties-ready : (s : List ℕ) (to m : ℕ) {n : ℕ} → is-got (frames s) ≡ true → n ≡ length (properties-of s) → to + length s ≤ m
+    → Reaches s n 0 × (to + length (write-all (property .write) (frames-in s n 0)) ≤ m)
+properties-ready s to m {n} e q h = (rw q (properties-framed s e .reaches), omega (arith, properties-length s n e q))
+
+pub properties-written : {x o : List ℕ} {n : ℕ} (s l : List ℕ) (at : ℕ) → is-got (frames s) ≡ true → n ≡ length (properties-of s) → at + 4 ≤ length l
+    → x ≡ splice l at (u32-bytes n) → o ≡ splice x (at + 4) (write-all (property .write) (frames-in s n 0))
+    → o ≡ splice l at (write-counted property (properties-of s))
+unfolding write-counted u32-bytes
+properties-written {n = n} s l at e q h f g =
+    let fr = properties-framed s e in
+    let are : frames-in s n 0 ≡ properties-of s = rw q (sym (fr .are)) in
+    g ∙ rw (f, are, splice-append-at l at (u32-bytes n) (write-all (property .write) (properties-of s)) 4 refl h, q)
+
+pub bits-length : (xs : List Float) → length (bits xs) ≡ length xs
+bits-length xs = length-map xs (toBits binary32)

@@ -1,0 +1,18 @@
+-- `vmd_parts::size_within` meets its contract. Assumes nothing.
+use native.Mathlib.Omega.{arith}
+use Rattle.vmd_parts.proofs.Size.{within-not, within-is}
+use Rattle.vmd_parts.proofs.size_within.Statement.{statement}
+use Rattle.vmd_parts.proofs.size_within.Tie as tie
+
+returns : tie.Need-returns
+returns c = within-not _ _ (omega arith)
+
+returns-2 : tie.Need-returns-2
+returns-2 c = within-not _ _ (omega arith)
+
+returns-3 : tie.Need-returns-3
+returns-3 c = within-is _ _ (omega arith)
+
+pub size-within-spec : {M : Type 1} → statement M
+size-within-spec =
+    tie.close (tie.spec (λ c. omega arith) (λ c. omega arith) (λ c. omega arith) (λ c. omega arith) (λ c. omega arith) (λ c. omega arith) (λ c. omega arith) returns returns-2 (λ c. omega arith) returns-3)

@@ -1,0 +1,52 @@
+-- `vmd_parts::write_bone_frames` meets its contract. Assumes nothing.
+use Prim.Native.Nat.{_-_}
+use native.Mathlib.Omega.{arith}
+use lib.ListN.{length}
+use borrow.Author.Needs.{needs}
+use Rattle.vmd_format.specs.Records.{bone}
+use Rattle.vmd_writers.proofs.Sections.{bone-sized}
+use Rattle.vmd_checks.specs.Meaning.{table-of, bits}
+use Rattle.vmd_parts.specs.Stages.{BonesFit, bone-of, bone-bytes}
+use Rattle.vmd_parts.proofs.Filling.{Filling, filling-start, filling-room, filling-turn, filling-end, bone-index, bone-there, bone-is}
+use Rattle.vmd_parts.proofs.write_bone_frames.Statement.{statement}
+use Rattle.vmd_parts.proofs.write_bone_frames.Tie as tie
+
+abbrev Inv-loop : tie.InvT-loop
+Inv-loop bytes ends indices frames translations rotations interpolations out₀ to i₀ q₀ out i q =
+    Filling (bone .encode) 111 (bone-of (table-of bytes ends) indices frames (bits translations) (bits rotations) interpolations) (length indices) out₀ to out i q
+
+abbrev μ-loop : tie.MeasureT-loop
+μ-loop bytes ends indices frames translations rotations interpolations out₀ to i₀ q₀ out i q = length indices - i
+
+name-at-requires : tie.Need-name-at-requires Inv-loop μ-loop
+name-at-requires c κs =
+    let l = c .before .before in
+    let s = l .before .before .before .before .before .before .before .before .before in
+    (s .pre .0 .table, bone-index (s .pre .0) (l .loop .i) (omega arith))
+
+shared-slice-read-write-bone-frame : tie.Need-shared-slice-read-write-bone-frame Inv-loop μ-loop
+shared-slice-read-write-bone-frame c =
+    let s = c .before .before .before .before .before .before .before .before .before .before .before .before .before in
+    omega (arith, s .pre .0 .framed)
+
+write-bone-frame-requires : tie.Need-write-bone-frame-requires Inv-loop μ-loop
+write-bone-frame-requires c κs =
+    let l = c .before .before .before .before .before in
+    let s = l .before .before .before .before .before .before .before .before .before in
+    (bone-there (s .pre .0) (l .loop .i) (omega arith), filling-room (l .loop .inv) (omega arith))
+
+loop-again : tie.Need-loop-again Inv-loop μ-loop
+loop-again c =
+    let w = c .before .before in
+    let n = w .before .before .before in
+    let l = n .before .before .before in
+    let s = l .before .before .before .before .before .before .before .before .before in
+    let a = s .args in
+    filling-turn (l .loop .inv) (omega arith) (bone-sized .wide _) (w .write-bone-frame .kept .1 .1 .1 .1 .1 .1 .0) (w .write-bone-frame .ensures)
+    (bone-is (table-of (a .bone-name-bytes .now) (a .bone-name-ends .now)) (a .indices .now) (a .frames .now) _ _ (a .interpolations .now) (l .loop .i) (bone-there (s .pre .0) (l .loop .i) (omega arith)) (n .name-at .ensures))
+
+pub write-bone-frames-spec : {M : Type 1} → statement M
+write-bone-frames-spec =
+    tie.close (tie.spec Inv-loop μ-loop (λ c. filling-start (omega arith)) (λ c. search needs) (λ c. search needs) (λ c. omega (arith, c .shared-slice-known8 .given (c .before .before .loop .i))) name-at-requires (λ c. omega arith)
+    shared-slice-read-write-bone-frame write-bone-frame-requires (λ c. omega (arith, filling-room (c .before .before .before .before .before .before .before .before .loop .inv) (omega arith))) (λ c. search needs) (λ c. omega arith) loop-again
+    (λ c. c .before .loop .inv .kept) (λ c. filling-end (c .before .loop .inv) (c .loop-test .left)))

@@ -1,0 +1,18 @@
+-- `vmd_parts::write_camera_section` meets its contract. Assumes nothing.
+use native.Mathlib.Omega.{arith}
+use borrow.Author.Needs.{needs}
+use Rattle.vmd_writers.proofs.Sections.{camera-sized}
+use Rattle.vmd_parts.proofs.Writing.{section-written}
+use Rattle.vmd_parts.proofs.write_camera_section.Statement.{statement}
+use Rattle.vmd_parts.proofs.write_camera_section.Tie as tie
+
+returns : tie.Need-returns
+returns c =
+    let w = c .before .before in
+    let n = w .before .before .before .before in
+    let a = n .before .before .before .before .args in
+    section-written camera-sized (a .src .now) (a .out .now) (a .at) (omega arith) (n .write-u32-le .ensures) (w .write-cameras .ensures)
+
+pub write-camera-section-spec : {M : Type 1} → statement M
+write-camera-section-spec =
+    tie.close (tie.spec (λ c. search needs) (λ c κs. search needs) (λ c. search needs) (λ c κs. search needs) (λ c. search needs) returns)

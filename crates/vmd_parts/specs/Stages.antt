@@ -1,0 +1,94 @@
+-- What writing meets: the parts as the checks let them through, and the bytes in two halves. Definitions only.
+use Prim.Native.Nat.{ℕ, _+_, _*_, _/_, _%_, _≤_}
+use mathlib.Core.Path.{_≡_}
+use mathlib.Core.Bool.{true}
+use mathlib.Core.List.{List, [], _++_}
+use lib.ListN.{length, getD, take, drop}
+use lib.Dec.{leb}
+use Rattle.vmd_format.specs.Bytes.{u32-bytes, padded}
+use Rattle.vmd_format.specs.Refusal.{output-too-short}
+use Rattle.vmd_format.specs.Answer.{Answer, given, unless}
+use Rattle.vmd_format.specs.Read.{fixed, write-all, write-counted}
+use Rattle.vmd_format.specs.Take.{property, write-header}
+use Rattle.vmd_format.specs.Records.{Bone, Morph, bone, morph, camera, light, self-shadow}
+use Rattle.vmd_format.specs.Parts.{NameTable, passes, each, finite, all-finite, names-of, records-of, frames, properties-of, upto, table-right, is-got}
+use Rattle.vmd_checks.specs.Stages.{bone-right, morph-right}
+
+-- ---- the size
+
+-- a length, where it is within a limit
+unfoldable pub within : ℕ → ℕ → Answer ℕ
+within limit n = unless (leb n limit) output-too-short (given n)
+
+-- ---- bones from columns
+
+-- the floats and the interpolation bytes of the bone at an index are there, and its floats are finite
+pub record BoneThere (translations rotations interpolations : List ℕ) (i : ℕ) : Type 0 where
+  pub translation : 3 * i + 3 ≤ length translations
+  pub rotation : 4 * i + 4 ≤ length rotations
+  pub interpolation : 64 * i + 64 ≤ length interpolations
+  pub translation-finite : all-finite (take 3 (drop (3 * i) translations)) ≡ true
+  pub rotation-finite : all-finite (take 4 (drop (4 * i) rotations)) ≡ true
+
+unfoldable pub bone-bytes : List ℕ → ℕ → List ℕ → List ℕ → List ℕ → ℕ → List ℕ
+bone-bytes name frame translations rotations interpolations i =
+    padded 15 name ++ (u32-bytes frame ++ (write-all u32-bytes (take 3 (drop (3 * i) translations))
+    ++ (write-all u32-bytes (take 4 (drop (4 * i) rotations)) ++ take 64 (drop (64 * i) interpolations))))
+
+-- the columns of bones as the checks let them through, and the bone at an index
+pub record BonesFit (t : NameTable) (indices frames translations rotations interpolations : List ℕ) : Type 0 where
+  pub table : table-right t ≡ true
+  pub framed : length frames ≡ length indices
+  pub translated : length translations ≡ 3 * length indices
+  pub rotated : length rotations ≡ 4 * length indices
+  pub interpolated : length interpolations ≡ 64 * length indices
+  pub right : each (bone-right indices (length (t .ends)) translations rotations) (upto 0 (length indices)) ≡ passes
+
+unfoldable pub bone-of : NameTable → List ℕ → List ℕ → List ℕ → List ℕ → List ℕ → ℕ → Bone
+bone-of t indices frames translations rotations interpolations i = record {
+  name = getD (names-of t) (getD indices i 0) [];
+  frame = getD frames i 0;
+  tx = getD translations (3 * i) 0;
+  ty = getD translations (3 * i + 1) 0;
+  tz = getD translations (3 * i + 2) 0;
+  rx = getD rotations (4 * i) 0;
+  ry = getD rotations (4 * i + 1) 0;
+  rz = getD rotations (4 * i + 2) 0;
+  rw = getD rotations (4 * i + 3) 0;
+  interpolation = take 64 (drop (64 * i) interpolations);
+}
+
+-- the same of morphs
+pub record MorphsFit (t : NameTable) (indices frames weights : List ℕ) : Type 0 where
+  pub table : table-right t ≡ true
+  pub framed : length frames ≡ length indices
+  pub weighed : length weights ≡ length indices
+  pub right : each (morph-right indices (length (t .ends)) weights) (upto 0 (length indices)) ≡ passes
+
+unfoldable pub morph-of : NameTable → List ℕ → List ℕ → List ℕ → ℕ → Morph
+morph-of t indices frames weights i = record {
+  name = getD (names-of t) (getD indices i 0) [];
+  frame = getD frames i 0;
+  weight = getD weights i 0;
+}
+
+-- ---- the file in two halves
+
+unfoldable pub front-bytes : List ℕ → List Bone → List Morph → List ℕ
+front-bytes m b f = write-header m ++ (write-counted (fixed bone) b ++ write-counted (fixed morph) f)
+
+-- record bytes as the checks let them through
+pub record RecordsFit (c l s p : List ℕ) : Type 0 where
+  pub cameras : length c % 61 ≡ 0
+  pub lights : length l % 28 ≡ 0
+  pub self-shadows : length s % 9 ≡ 0
+  pub properties : is-got (frames p) ≡ true
+  pub camera-count : length c / 61 ≤ 4294967295
+  pub light-count : length l / 28 ≤ 4294967295
+  pub self-shadow-count : length s / 9 ≤ 4294967295
+  pub property-count : length (properties-of p) ≤ 4294967295
+
+unfoldable pub back-bytes : List ℕ → List ℕ → List ℕ → List ℕ → List ℕ
+back-bytes c l s p =
+    write-counted (fixed camera) (records-of camera c) ++ (write-counted (fixed light) (records-of light l)
+    ++ (write-counted (fixed self-shadow) (records-of self-shadow s) ++ write-counted property (properties-of p)))

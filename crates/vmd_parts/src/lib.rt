@@ -1,0 +1,467 @@
+// Building a file from parts: a model name, name tables, record bytes and columns. Every part is checked before a byte is
+// written.
+use vmd_names::Check;
+use vmd_records::VmdParsedBoneFrame;
+use vmd_records::VmdParsedCameraFrame;
+use vmd_records::VmdParsedLightFrame;
+use vmd_records::VmdParsedMorphFrame;
+use vmd_records::VmdParsedSelfShadowFrame;
+use vmd_scan::HEADER_SIZE;
+use vmd_scan::MAGIC_SIZE;
+use vmd_scan::VMD_MAGIC;
+use vmd_scan::VmdRefusal;
+ghost use mathlib.Core.Path.{_≡_};
+ghost use mathlib.Core.Bool.{true};
+ghost use mathlib.Core.List.{_++_, map};
+ghost use Prim.Native.Nat.{_+_, _*_, _/_, _≤_};
+ghost use lib.ListN.{length, take, drop};
+ghost use lib.Ieee.{binary32, toBits};
+ghost use Rattle.vmd_format.specs.Bytes.{u32-bytes, padded};
+ghost use Rattle.vmd_format.specs.Records.{bone, morph, camera, light, self-shadow};
+ghost use Rattle.vmd_format.specs.Read.{fixed, write-all, write-counted};
+ghost use Rattle.vmd_format.specs.Take.{property, write-header};
+ghost use Rattle.vmd_format.specs.Parts.{records-of, is-got, frames, properties-of, finite, all-finite, upto, build};
+ghost use Rattle.vmd_format.specs.Answer.{fitted, map-answer, left};
+ghost use Rattle.vmd_bytes.specs.Slices.{splice};
+ghost use Rattle.vmd_checks.specs.Meaning.{table-of, bits, parts-of};
+ghost use Rattle.vmd_parts.specs.Meaning.{built-answer};
+ghost use Rattle.vmd_parts.specs.Stages.{within, BoneThere, bone-bytes, BonesFit, bone-of, MorphsFit, morph-of, front-bytes, RecordsFit, back-bytes};
+
+const BONE_SIZE: usize = VmdParsedBoneFrame::SIZE;
+
+const MORPH_SIZE: usize = VmdParsedMorphFrame::SIZE;
+
+const CAMERA_SIZE: usize = VmdParsedCameraFrame::SIZE;
+
+const LIGHT_SIZE: usize = VmdParsedLightFrame::SIZE;
+
+const SELF_SHADOW_SIZE: usize = VmdParsedSelfShadowFrame::SIZE;
+
+// The names of a model, of a bone or a morph, and of an IK state.
+const MODEL_NAME_SIZE: usize = 20;
+
+const NAME_SIZE: usize = 15;
+
+// The count before a section's records.
+const COUNT_SIZE: usize = 4;
+
+// The header and the counts of bones and morphs.
+const FRONT_SIZE: usize = HEADER_SIZE + 2 * COUNT_SIZE;
+
+// ---- the size
+
+// What building answers: how many bytes were written.
+pub enum VmdBuilt {
+    Refused(VmdRefusal),
+    Bytes(u64),
+}
+
+// The size of a file of so many bones and morphs and of these records, where it is within a limit. Only the bytes of the
+// properties can be so many that the sum would not fit.
+fn size_within(
+    bones: usize,
+    morphs: usize,
+    cameras: usize,
+    lights: usize,
+    self_shadows: usize,
+    properties: usize,
+    limit: usize,
+) -> VmdBuilt
+    requires { ⌜ (bones ≤ 4294967295) × (morphs ≤ 4294967295) × (cameras ≤ 261993004995) × (lights ≤ 120259084260) × («self_shadows» ≤ 38654705655) ⌝ }
+    ensures { λ r. ⌜ built-answer r ≡ within limit (74 + 111 * bones + 23 * morphs + cameras + lights + «self_shadows» + properties) ⌝ }
+{
+    let front = 74 + 111 * bones + 23 * morphs + cameras + lights + self_shadows;
+    if limit < front {
+        return VmdBuilt::Refused(VmdRefusal::OutputTooShort);
+    }
+    if limit - front < properties {
+        return VmdBuilt::Refused(VmdRefusal::OutputTooShort);
+    }
+    VmdBuilt::Bytes((front + properties) as u64)
+}
+
+// How many bytes building writes.
+pub fn build_vmd_size(
+    model_name: &[u8],
+    bone_name_bytes: &[u8],
+    bone_name_ends: &[u32],
+    morph_name_bytes: &[u8],
+    morph_name_ends: &[u32],
+    camera_frames: &[u8],
+    light_frames: &[u8],
+    self_shadow_frames: &[u8],
+    property_frames: &[u8],
+    bone_name_indices: &[u32],
+    bone_frames: &[u32],
+    bone_translations_xyz: &[f32],
+    bone_rotations_xyzw: &[f32],
+    bone_interpolations: &[u8],
+    morph_name_indices: &[u32],
+    morph_frames: &[u32],
+    morph_weights: &[f32],
+) -> VmdBuilt
+    ensures { λ r. ⌜ built-answer r ≡ map-answer length (fitted 18446744073709551615 (build (parts-of (now («model_name» .entry)) (now («bone_name_bytes» .entry)) (now («bone_name_ends» .entry))
+        (now («morph_name_bytes» .entry)) (now («morph_name_ends» .entry)) (now («camera_frames» .entry)) (now («light_frames» .entry))
+        (now («self_shadow_frames» .entry)) (now («property_frames» .entry)) (now («bone_name_indices» .entry)) (now («bone_frames» .entry))
+        (now («bone_translations_xyz» .entry)) (now («bone_rotations_xyzw» .entry)) (now («bone_interpolations» .entry))
+        (now («morph_name_indices» .entry)) (now («morph_frames» .entry)) (now («morph_weights» .entry))))) ⌝ }
+{
+    match vmd_checks::parts_check(
+        model_name,
+        bone_name_bytes,
+        bone_name_ends,
+        morph_name_bytes,
+        morph_name_ends,
+        camera_frames,
+        light_frames,
+        self_shadow_frames,
+        property_frames,
+        bone_name_indices,
+        bone_frames,
+        bone_translations_xyz,
+        bone_rotations_xyzw,
+        bone_interpolations,
+        morph_name_indices,
+        morph_frames,
+        morph_weights,
+    ) {
+        Check::Fails(k) => VmdBuilt::Refused(k),
+        Check::Passes => size_within(
+            bone_name_indices.len(),
+            morph_name_indices.len(),
+            camera_frames.len(),
+            light_frames.len(),
+            self_shadow_frames.len(),
+            property_frames.len(),
+            0xffff_ffff_ffff_ffff,
+        ),
+    }
+}
+
+// ---- writing
+
+fn write_header(model_name: &[u8], out: &mut [u8])
+    requires { ⌜ 50 ≤ length (now out) ⌝ }
+    ensures { λ _. ⌜ now (out .exit) ≡ splice (now (out .entry)) 0 (write-header (now («model_name» .entry))) ⌝ }
+{
+    vmd_bytes::copy_bytes(&VMD_MAGIC, 0, out, 0, MAGIC_SIZE);
+    vmd_bytes::write_fixed_bytes(model_name, out, MAGIC_SIZE, MODEL_NAME_SIZE);
+}
+
+// Writes n floats of a column from a place on.
+fn write_floats(xs: &[f32], at: usize, n: usize, out: &mut [u8], to: usize)
+    requires { ⌜ (at + n ≤ length (now xs)) × (to + n * 4 ≤ length (now out)) × (all-finite (take n (drop at (bits (now xs)))) ≡ true) ⌝ }
+    ensures { λ _. ⌜ now (out .exit) ≡ splice (now (out .entry)) to (write-all u32-bytes (take n (drop at (bits (now (xs .entry)))))) ⌝ }
+{
+    let mut p = at;
+    let mut q = to;
+    let mut left = n;
+    while 0 < left {
+        let bits = vmd_bytes::float_to_bits(xs[p]);
+        vmd_bytes::write_u32_le(out, q, bits);
+        p += 1;
+        q += 4;
+        left -= 1;
+    }
+}
+
+// The fields of a bone: its name, and the others at an index of their columns.
+fn write_bone_frame(
+    name: &[u8],
+    frame: u32,
+    translations: &[f32],
+    rotations: &[f32],
+    interpolations: &[u8],
+    i: usize,
+    out: &mut [u8],
+    to: usize,
+)
+    requires { ⌜ BoneThere (bits (now translations)) (bits (now rotations)) (now interpolations) i × (to + 111 ≤ length (now out)) ⌝ }
+    ensures { λ _. ⌜ now (out .exit) ≡ splice (now (out .entry)) to (bone-bytes (now (name .entry)) frame (bits (now (translations .entry))) (bits (now (rotations .entry))) (now (interpolations .entry)) i) ⌝ }
+{
+    vmd_bytes::write_fixed_bytes(name, out, to, NAME_SIZE);
+    vmd_bytes::write_u32_le(out, to + 15, frame);
+    write_floats(translations, 3 * i, 3, out, to + 19);
+    write_floats(rotations, 4 * i, 4, out, to + 31);
+    vmd_bytes::copy_bytes(interpolations, 64 * i, out, to + 47, 64);
+}
+
+// The fields of a morph.
+fn write_morph_frame(name: &[u8], frame: u32, weight: f32, out: &mut [u8], to: usize)
+    requires { ⌜ (finite (toBits binary32 weight) ≡ true) × (to + 23 ≤ length (now out)) ⌝ }
+    ensures { λ _. ⌜ now (out .exit) ≡ splice (now (out .entry)) to (padded 15 (now (name .entry)) ++ (u32-bytes frame ++ u32-bytes (toBits binary32 weight))) ⌝ }
+{
+    vmd_bytes::write_fixed_bytes(name, out, to, NAME_SIZE);
+    vmd_bytes::write_u32_le(out, to + 15, frame);
+    vmd_bytes::write_u32_le(out, to + 19, vmd_bytes::float_to_bits(weight));
+}
+
+// A section: its count, and then its records.
+fn write_camera_section(src: &[u8], out: &mut [u8], at: usize)
+    requires { ⌜ (at + 4 + length (now src) ≤ length (now out)) × (length (now src) / 61 ≤ 4294967295) ⌝ }
+    ensures { λ _. ⌜ now (out .exit) ≡ splice (now (out .entry)) at (write-counted (fixed camera) (records-of camera (now (src .entry)))) ⌝ }
+{
+    let n = src.len() / CAMERA_SIZE;
+    vmd_bytes::write_u32_le(out, at, n as u32);
+    vmd_writers::write_cameras(src, 0, out, at + COUNT_SIZE, n);
+}
+
+fn write_light_section(src: &[u8], out: &mut [u8], at: usize)
+    requires { ⌜ (at + 4 + length (now src) ≤ length (now out)) × (length (now src) / 28 ≤ 4294967295) ⌝ }
+    ensures { λ _. ⌜ now (out .exit) ≡ splice (now (out .entry)) at (write-counted (fixed light) (records-of light (now (src .entry)))) ⌝ }
+{
+    let n = src.len() / LIGHT_SIZE;
+    vmd_bytes::write_u32_le(out, at, n as u32);
+    vmd_writers::write_lights(src, 0, out, at + COUNT_SIZE, n);
+}
+
+fn write_self_shadow_section(src: &[u8], out: &mut [u8], at: usize)
+    requires { ⌜ (at + 4 + length (now src) ≤ length (now out)) × (length (now src) / 9 ≤ 4294967295) ⌝ }
+    ensures { λ _. ⌜ now (out .exit) ≡ splice (now (out .entry)) at (write-counted (fixed self-shadow) (records-of self-shadow (now (src .entry)))) ⌝ }
+{
+    let n = src.len() / SELF_SHADOW_SIZE;
+    vmd_bytes::write_u32_le(out, at, n as u32);
+    vmd_writers::write_self_shadows(src, 0, out, at + COUNT_SIZE, n);
+}
+
+fn write_property_section(src: &[u8], out: &mut [u8], at: usize)
+    requires { ⌜ (at + 4 + length (now src) ≤ length (now out)) × (length (properties-of (now src)) ≤ 4294967295) × (is-got (frames (now src)) ≡ true) ⌝ }
+    ensures { λ _. ⌜ now (out .exit) ≡ splice (now (out .entry)) at (write-counted property (properties-of (now (src .entry)))) ⌝ }
+{
+    let n = vmd_checks::property_count(src);
+    vmd_bytes::write_u32_le(out, at, n as u32);
+    vmd_writers::write_properties(src, 0, out, at + COUNT_SIZE, n);
+}
+
+// The bones from their columns.
+fn write_bone_frames(
+    bone_name_bytes: &[u8],
+    bone_name_ends: &[u32],
+    indices: &[u32],
+    frames: &[u32],
+    translations: &[f32],
+    rotations: &[f32],
+    interpolations: &[u8],
+    out: &mut [u8],
+    to: usize,
+)
+    requires { ⌜ BonesFit (table-of (now «bone_name_bytes») (now «bone_name_ends»)) (now indices) (now frames) (bits (now translations)) (bits (now rotations)) (now interpolations)
+        × (to + length (now indices) * 111 ≤ length (now out)) ⌝ }
+    ensures { λ _. ⌜ now (out .exit) ≡ splice (now (out .entry)) to (write-all (bone .encode) (map (bone-of (table-of (now («bone_name_bytes» .entry)) (now («bone_name_ends» .entry)))
+        (now (indices .entry)) (now (frames .entry)) (bits (now (translations .entry))) (bits (now (rotations .entry))) (now (interpolations .entry))) (upto 0 (length (now (indices .entry)))))) ⌝ }
+{
+    let mut i = 0;
+    let mut q = to;
+    while i < indices.len() {
+        let name = vmd_checks::name_at(bone_name_bytes, bone_name_ends, indices[i] as usize);
+        write_bone_frame(
+            name,
+            frames[i],
+            translations,
+            rotations,
+            interpolations,
+            i,
+            out,
+            q,
+        );
+        q += BONE_SIZE;
+        i += 1;
+    }
+}
+
+// The morphs from their columns.
+fn write_morph_frames(
+    morph_name_bytes: &[u8],
+    morph_name_ends: &[u32],
+    indices: &[u32],
+    frames: &[u32],
+    weights: &[f32],
+    out: &mut [u8],
+    to: usize,
+)
+    requires { ⌜ MorphsFit (table-of (now «morph_name_bytes») (now «morph_name_ends»)) (now indices) (now frames) (bits (now weights)) × (to + length (now indices) * 23 ≤ length (now out)) ⌝ }
+    ensures { λ _. ⌜ now (out .exit) ≡ splice (now (out .entry)) to (write-all (morph .encode) (map (morph-of (table-of (now («morph_name_bytes» .entry)) (now («morph_name_ends» .entry)))
+        (now (indices .entry)) (now (frames .entry)) (bits (now (weights .entry)))) (upto 0 (length (now (indices .entry)))))) ⌝ }
+{
+    let mut i = 0;
+    let mut q = to;
+    while i < indices.len() {
+        let name = vmd_checks::name_at(morph_name_bytes, morph_name_ends, indices[i] as usize);
+        write_morph_frame(name, frames[i], weights[i], out, q);
+        q += MORPH_SIZE;
+        i += 1;
+    }
+}
+
+// The header, the bones and the morphs.
+fn write_front(
+    model_name: &[u8],
+    bone_name_bytes: &[u8],
+    bone_name_ends: &[u32],
+    morph_name_bytes: &[u8],
+    morph_name_ends: &[u32],
+    bone_name_indices: &[u32],
+    bone_frames: &[u32],
+    bone_translations_xyz: &[f32],
+    bone_rotations_xyzw: &[f32],
+    bone_interpolations: &[u8],
+    morph_name_indices: &[u32],
+    morph_frames: &[u32],
+    morph_weights: &[f32],
+    out: &mut [u8],
+)
+    requires { ⌜ BonesFit (table-of (now «bone_name_bytes») (now «bone_name_ends»)) (now «bone_name_indices») (now «bone_frames») (bits (now «bone_translations_xyz»)) (bits (now «bone_rotations_xyzw»)) (now «bone_interpolations») ⌝ }
+    requires { ⌜ MorphsFit (table-of (now «morph_name_bytes») (now «morph_name_ends»)) (now «morph_name_indices») (now «morph_frames») (bits (now «morph_weights»)) ⌝ }
+    requires { ⌜ (length (now «bone_name_indices») ≤ 4294967295) × (length (now «morph_name_indices») ≤ 4294967295)
+        × (58 + length (now «bone_name_indices») * 111 + length (now «morph_name_indices») * 23 ≤ length (now out)) ⌝ }
+    ensures { λ _. ⌜ now (out .exit) ≡ splice (now (out .entry)) 0 (front-bytes (now («model_name» .entry))
+        (map (bone-of (table-of (now («bone_name_bytes» .entry)) (now («bone_name_ends» .entry))) (now («bone_name_indices» .entry)) (now («bone_frames» .entry))
+        (bits (now («bone_translations_xyz» .entry))) (bits (now («bone_rotations_xyzw» .entry))) (now («bone_interpolations» .entry))) (upto 0 (length (now («bone_name_indices» .entry)))))
+        (map (morph-of (table-of (now («morph_name_bytes» .entry)) (now («morph_name_ends» .entry))) (now («morph_name_indices» .entry)) (now («morph_frames» .entry))
+        (bits (now («morph_weights» .entry)))) (upto 0 (length (now («morph_name_indices» .entry)))))) ⌝ }
+{
+    let bones = bone_name_indices.len();
+    let morphs = morph_name_indices.len();
+    write_header(model_name, out);
+    vmd_bytes::write_u32_le(out, HEADER_SIZE, bones as u32);
+    write_bone_frames(
+        bone_name_bytes,
+        bone_name_ends,
+        bone_name_indices,
+        bone_frames,
+        bone_translations_xyz,
+        bone_rotations_xyzw,
+        bone_interpolations,
+        out,
+        HEADER_SIZE + COUNT_SIZE,
+    );
+    let at = HEADER_SIZE + COUNT_SIZE + bones * BONE_SIZE;
+    vmd_bytes::write_u32_le(out, at, morphs as u32);
+    write_morph_frames(
+        morph_name_bytes,
+        morph_name_ends,
+        morph_name_indices,
+        morph_frames,
+        morph_weights,
+        out,
+        at + COUNT_SIZE,
+    );
+}
+
+// Cameras, lights, self-shadows and properties.
+fn write_back(
+    camera_frames: &[u8],
+    light_frames: &[u8],
+    self_shadow_frames: &[u8],
+    property_frames: &[u8],
+    out: &mut [u8],
+    at: usize,
+)
+    requires { ⌜ RecordsFit (now «camera_frames») (now «light_frames») (now «self_shadow_frames») (now «property_frames»)
+        × (at + 16 + length (now «camera_frames») + length (now «light_frames») + length (now «self_shadow_frames») + length (now «property_frames») ≤ length (now out)) ⌝ }
+    ensures { λ _. ⌜ now (out .exit) ≡ splice (now (out .entry)) at (back-bytes (now («camera_frames» .entry)) (now («light_frames» .entry)) (now («self_shadow_frames» .entry)) (now («property_frames» .entry))) ⌝ }
+{
+    write_camera_section(camera_frames, out, at);
+    let lights = at + COUNT_SIZE + camera_frames.len();
+    write_light_section(light_frames, out, lights);
+    let self_shadows = lights + COUNT_SIZE + light_frames.len();
+    write_self_shadow_section(self_shadow_frames, out, self_shadows);
+    let properties = self_shadows + COUNT_SIZE + self_shadow_frames.len();
+    write_property_section(property_frames, out, properties);
+}
+
+// Builds the file of the parts at the front of out.
+pub fn build_vmd_animation_from_parts(
+    model_name: &[u8],
+    bone_name_bytes: &[u8],
+    bone_name_ends: &[u32],
+    morph_name_bytes: &[u8],
+    morph_name_ends: &[u32],
+    camera_frames: &[u8],
+    light_frames: &[u8],
+    self_shadow_frames: &[u8],
+    property_frames: &[u8],
+    bone_name_indices: &[u32],
+    bone_frames: &[u32],
+    bone_translations_xyz: &[f32],
+    bone_rotations_xyzw: &[f32],
+    bone_interpolations: &[u8],
+    morph_name_indices: &[u32],
+    morph_frames: &[u32],
+    morph_weights: &[f32],
+    out: &mut [u8],
+) -> VmdBuilt
+    ensures { λ r. ⌜ built-answer r ≡ map-answer length (fitted (length (now (out .entry))) (build (parts-of (now («model_name» .entry)) (now («bone_name_bytes» .entry)) (now («bone_name_ends» .entry))
+        (now («morph_name_bytes» .entry)) (now («morph_name_ends» .entry)) (now («camera_frames» .entry)) (now («light_frames» .entry))
+        (now («self_shadow_frames» .entry)) (now («property_frames» .entry)) (now («bone_name_indices» .entry)) (now («bone_frames» .entry))
+        (now («bone_translations_xyz» .entry)) (now («bone_rotations_xyzw» .entry)) (now («bone_interpolations» .entry))
+        (now («morph_name_indices» .entry)) (now («morph_frames» .entry)) (now («morph_weights» .entry))))) ⌝ }
+    ensures { λ _. ⌜ now (out .exit) ≡ left (now (out .entry)) (fitted (length (now (out .entry))) (build (parts-of (now («model_name» .entry)) (now («bone_name_bytes» .entry)) (now («bone_name_ends» .entry))
+        (now («morph_name_bytes» .entry)) (now («morph_name_ends» .entry)) (now («camera_frames» .entry)) (now («light_frames» .entry))
+        (now («self_shadow_frames» .entry)) (now («property_frames» .entry)) (now («bone_name_indices» .entry)) (now («bone_frames» .entry))
+        (now («bone_translations_xyz» .entry)) (now («bone_rotations_xyzw» .entry)) (now («bone_interpolations» .entry))
+        (now («morph_name_indices» .entry)) (now («morph_frames» .entry)) (now («morph_weights» .entry))))) ⌝ }
+{
+    match vmd_checks::parts_check(
+        model_name,
+        bone_name_bytes,
+        bone_name_ends,
+        morph_name_bytes,
+        morph_name_ends,
+        camera_frames,
+        light_frames,
+        self_shadow_frames,
+        property_frames,
+        bone_name_indices,
+        bone_frames,
+        bone_translations_xyz,
+        bone_rotations_xyzw,
+        bone_interpolations,
+        morph_name_indices,
+        morph_frames,
+        morph_weights,
+    ) {
+        Check::Fails(k) => VmdBuilt::Refused(k),
+        Check::Passes => match size_within(
+            bone_name_indices.len(),
+            morph_name_indices.len(),
+            camera_frames.len(),
+            light_frames.len(),
+            self_shadow_frames.len(),
+            property_frames.len(),
+            out.len(),
+        ) {
+            VmdBuilt::Refused(k) => VmdBuilt::Refused(k),
+            VmdBuilt::Bytes(n) => {
+                write_front(
+                    model_name,
+                    bone_name_bytes,
+                    bone_name_ends,
+                    morph_name_bytes,
+                    morph_name_ends,
+                    bone_name_indices,
+                    bone_frames,
+                    bone_translations_xyz,
+                    bone_rotations_xyzw,
+                    bone_interpolations,
+                    morph_name_indices,
+                    morph_frames,
+                    morph_weights,
+                    out,
+                );
+                let at = FRONT_SIZE
+                    + bone_name_indices.len() * BONE_SIZE
+                    + morph_name_indices.len() * MORPH_SIZE;
+                write_back(
+                    camera_frames,
+                    light_frames,
+                    self_shadow_frames,
+                    property_frames,
+                    out,
+                    at,
+                );
+                VmdBuilt::Bytes(n)
+            }
+        },
+    }
+}
