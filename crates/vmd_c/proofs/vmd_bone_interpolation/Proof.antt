@@ -1,0 +1,42 @@
+-- `vmd_c::vmd_bone_interpolation` meets its contract. Assumes nothing.
+use native.Mathlib.Omega.{arith}
+use borrow.Author.Needs.{needs}
+use Rattle.vmd_format.specs.Records.{bone}
+use Rattle.vmd_c.specs.Meaning.{part-at, scan-at}
+use Rattle.vmd_c.specs.PartsOfFile.{bone-interpolation-part}
+use Rattle.vmd_c.proofs.Laws.{bytes-at, part-none, part-some, part-fits}
+use Rattle.vmd_c.proofs.vmd_bone_interpolation.Statement.{statement}
+use Rattle.vmd_c.proofs.vmd_bone_interpolation.Tie as tie
+
+returns : tie.Need-returns
+returns c =
+    let n = c .before .before in
+    part-none _ (bytes-at bone (λ x. x .interpolation) (λ x. x .bones) _ _ (n .before .opening-of .ensures) (n .bone-interpolation .ensures)) (c .before .if1 .taken)
+
+mul-at : tie.Need-mul-at
+unfolding scan-at part-at
+mul-at c =
+    let n = c .before .before in
+    omega (arith, part-fits _ (bytes-at bone (λ x. x .interpolation) (λ x. x .bones) _ _ (n .before .opening-of .ensures) (n .bone-interpolation .ensures)) _ (bone-interpolation-part _ _ _) (omega arith))
+
+add-at : tie.Need-add-at
+unfolding scan-at part-at
+add-at c =
+    let n = c .before .before in
+    omega (arith, part-fits _ (bytes-at bone (λ x. x .interpolation) (λ x. x .bones) _ _ (n .before .opening-of .ensures) (n .bone-interpolation .ensures)) _ (bone-interpolation-part _ _ _) (omega arith))
+
+add-at-2 : tie.Need-add-at-2
+unfolding scan-at part-at
+add-at-2 c =
+    let n = c .before .before in
+    omega (arith, part-fits _ (bytes-at bone (λ x. x .interpolation) (λ x. x .bones) _ _ (n .before .opening-of .ensures) (n .bone-interpolation .ensures)) _ (bone-interpolation-part _ _ _) (omega arith))
+
+returns-2 : tie.Need-returns-2
+unfolding scan-at part-at
+returns-2 c =
+    let n = c .before .before .before in
+    part-some _ (bytes-at bone (λ x. x .interpolation) (λ x. x .bones) _ _ (n .before .opening-of .ensures) (n .bone-interpolation .ensures)) (omega arith)
+
+pub vmd-bone-interpolation-spec : {M : Type 1} → statement M
+vmd-bone-interpolation-spec =
+    tie.close (tie.spec (λ c κs. search needs) (λ c κs. search needs) returns (λ c. search needs) mul-at add-at add-at-2 returns-2)

@@ -1,0 +1,14 @@
+-- `vmd_c::vmd_join_animations` meets its contract. Assumes nothing.
+use borrow.Author.Needs.{needs}
+use Rattle.vmd_c.proofs.Laws.{handed}
+use Rattle.vmd_c.proofs.vmd_join_animations.Statement.{statement}
+use Rattle.vmd_c.proofs.vmd_join_animations.Tie as tie
+
+returns : tie.Need-returns
+returns c =
+    let w = c .before .before .before .before .join-vmd-animations .ensures in
+    let r = handed _ _ (c .report-written .ensures) (w .0) in
+    (r .0, r .1, w .1)
+
+pub vmd-join-animations-spec : {M : Type 1} → statement M
+vmd-join-animations-spec = tie.close (tie.spec (λ c κs. search needs) (λ c κs. search needs) (λ c. search needs) returns)

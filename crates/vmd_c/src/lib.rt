@@ -1,0 +1,663 @@
+// The library for C, thin over the calls of vmd_reader, vmd_export and vmd_parts. include/vmd.h says how C calls it. Every
+// function states what it returns, and every slot and buffer at exit, by equations with definitions.
+use vmd_export::VmdWritten;
+use vmd_parts::VmdBuilt;
+use vmd_reader::VmdBoneAnswer;
+use vmd_reader::VmdCameraAnswer;
+use vmd_reader::VmdIkStateAnswer;
+use vmd_reader::VmdLightAnswer;
+use vmd_reader::VmdLightBitsAnswer;
+use vmd_reader::VmdMorphAnswer;
+use vmd_reader::VmdOpened;
+use vmd_reader::VmdOpening;
+use vmd_reader::VmdPropertyAnswer;
+use vmd_reader::VmdSelfShadowAnswer;
+use vmd_records::VmdParsedBoneFrame;
+use vmd_records::VmdParsedCameraFrame;
+use vmd_records::VmdParsedIkState;
+use vmd_records::VmdParsedMorphFrame;
+use vmd_records::VmdParsedPropertyFrame;
+use vmd_scan::VmdSection;
+use vmd_scan::VmdSections;
+ghost use mathlib.Core.Path.{_≡_};
+ghost use Prim.Native.Nat.{_+_, _*_};
+ghost use lib.ListN.{length, getD};
+ghost use Rattle.vmd_format.specs.Bytes.{flag-byte};
+ghost use Rattle.vmd_format.specs.Names.{fault};
+ghost use Rattle.vmd_format.specs.Answer.{map-answer, fitted, left};
+ghost use Rattle.vmd_format.specs.Records.{bone, morph, camera, light, self-shadow};
+ghost use Rattle.vmd_format.specs.Read.{lenient};
+ghost use Rattle.vmd_format.specs.Opening.{open-file, scratch-after};
+ghost use Rattle.vmd_format.specs.Fetch.{fetch, or-empty, model-of, fetch-property, fetch-ik-state};
+ghost use Rattle.vmd_format.specs.Parts.{build};
+ghost use Rattle.vmd_reader.specs.Meaning.{opening-is};
+ghost use Rattle.vmd_export.specs.Meaning.{written-answer};
+ghost use Rattle.vmd_export.specs.Saved.{exported-answer, exported-output, joined-answer, joined-output, export-size, join-size};
+ghost use Rattle.vmd_checks.specs.Meaning.{parts-of};
+ghost use Rattle.vmd_parts.specs.Meaning.{built-answer};
+ghost use Rattle.vmd_c.specs.Meaning.{status, slot-after, counts-of, places-of, totals-of, scan-at, bone-words, morph-words, camera-words, light-values, light-words, self-shadow-words, property-words, part-words, joined-words};
+
+fn wide(b: u8) -> u32
+    ensures { λ r. ⌜ r ≡ b ⌝ }
+{
+    b as u32
+}
+
+// ---- opening
+
+// The opening that counts and places say. The calls for records need neither the number of IK states nor the largest frame.
+fn opening_of(counts: &[u32; 6], places: &[u64; 6]) -> VmdOpening
+    ensures { λ r. ⌜ opening-is r .scan ≡ scan-at (now (counts .entry)) (now (places .entry)) ⌝ }
+{
+    VmdOpening {
+        sections: VmdSections {
+            bones: VmdSection {
+                count: counts[0],
+                place: places[0] as usize,
+            },
+            morphs: VmdSection {
+                count: counts[1],
+                place: places[1] as usize,
+            },
+            cameras: VmdSection {
+                count: counts[2],
+                place: places[2] as usize,
+            },
+            lights: VmdSection {
+                count: counts[3],
+                place: places[3] as usize,
+            },
+            self_shadows: VmdSection {
+                count: counts[4],
+                place: places[4] as usize,
+            },
+            properties: VmdSection {
+                count: counts[5],
+                place: places[5] as usize,
+            },
+            ik_states: 0,
+        },
+        max_frame: 0,
+    }
+}
+
+#[no_mangle]
+pub extern "C" fn vmd_parse_animation(
+    file: &[u8],
+    scratch: &mut [u64],
+    counts: &mut [u32; 6],
+    places: &mut [u64; 6],
+    totals: &mut [u64; 2],
+) -> u32
+    ensures { λ r. ⌜ (let answer = open-file lenient (now (file .entry)) (length (now (scratch .entry))) in
+        (r ≡ status answer)
+        × (now (counts .exit) ≡ slot-after (now (counts .entry)) counts-of answer)
+        × (now (places .exit) ≡ slot-after (now (places .entry)) places-of answer)
+        × (now (totals .exit) ≡ slot-after (now (totals .entry)) totals-of answer)
+        × (now (scratch .exit) ≡ scratch-after lenient (now (file .entry)) (now (scratch .entry)))) ⌝ }
+{
+    match vmd_reader::parse_vmd_animation(file, scratch) {
+        VmdOpened::Refused(k) => k.number(),
+        VmdOpened::Opened(o) => {
+            let s = o.sections;
+            *counts = [
+                s.bones.count,
+                s.morphs.count,
+                s.cameras.count,
+                s.lights.count,
+                s.self_shadows.count,
+                s.properties.count,
+            ];
+            *places = [
+                s.bones.place as u64,
+                s.morphs.place as u64,
+                s.cameras.place as u64,
+                s.lights.place as u64,
+                s.self_shadows.place as u64,
+                s.properties.place as u64,
+            ];
+            *totals = [s.ik_states, o.max_frame as u64];
+            0
+        }
+    }
+}
+
+// ---- records by number
+
+#[no_mangle]
+pub extern "C" fn vmd_bone_frame(
+    file: &[u8],
+    counts: &[u32; 6],
+    places: &[u64; 6],
+    i: usize,
+    fields: &mut [u32; 8],
+) -> u32
+    ensures { λ r. ⌜ (let answer = fetch bone (scan-at (now (counts .entry)) (now (places .entry)) .bones) i (now (file .entry)) in
+        (r ≡ status answer)
+        × (now (fields .exit) ≡ slot-after (now (fields .entry)) bone-words answer)) ⌝ }
+{
+    match vmd_reader::bone_frame(file, opening_of(counts, places), i) {
+        VmdBoneAnswer::Refused(k) => k.number(),
+        VmdBoneAnswer::Found(x) => {
+            *fields = [
+                x.frame,
+                x.translation_x,
+                x.translation_y,
+                x.translation_z,
+                x.rotation_x,
+                x.rotation_y,
+                x.rotation_z,
+                x.rotation_w,
+            ];
+            0
+        }
+    }
+}
+
+#[no_mangle]
+pub extern "C" fn vmd_morph_frame(
+    file: &[u8],
+    counts: &[u32; 6],
+    places: &[u64; 6],
+    i: usize,
+    fields: &mut [u32; 2],
+) -> u32
+    ensures { λ r. ⌜ (let answer = fetch morph (scan-at (now (counts .entry)) (now (places .entry)) .morphs) i (now (file .entry)) in
+        (r ≡ status answer)
+        × (now (fields .exit) ≡ slot-after (now (fields .entry)) morph-words answer)) ⌝ }
+{
+    match vmd_reader::morph_frame(file, opening_of(counts, places), i) {
+        VmdMorphAnswer::Refused(k) => k.number(),
+        VmdMorphAnswer::Found(x) => {
+            *fields = [x.frame, x.weight];
+            0
+        }
+    }
+}
+
+#[no_mangle]
+pub extern "C" fn vmd_camera_frame(
+    file: &[u8],
+    counts: &[u32; 6],
+    places: &[u64; 6],
+    i: usize,
+    fields: &mut [u32; 10],
+) -> u32
+    ensures { λ r. ⌜ (let answer = fetch camera (scan-at (now (counts .entry)) (now (places .entry)) .cameras) i (now (file .entry)) in
+        (r ≡ status answer)
+        × (now (fields .exit) ≡ slot-after (now (fields .entry)) camera-words answer)) ⌝ }
+{
+    match vmd_reader::camera_frame(file, opening_of(counts, places), i) {
+        VmdCameraAnswer::Refused(k) => k.number(),
+        VmdCameraAnswer::Found(x) => {
+            let perspective = wide(vmd_bytes::flag_to_byte(x.perspective));
+            *fields = [
+                x.frame,
+                x.distance,
+                x.position_x,
+                x.position_y,
+                x.position_z,
+                x.rotation_x,
+                x.rotation_y,
+                x.rotation_z,
+                x.fov,
+                perspective,
+            ];
+            0
+        }
+    }
+}
+
+#[no_mangle]
+pub extern "C" fn vmd_light_frame(
+    file: &[u8],
+    counts: &[u32; 6],
+    places: &[u64; 6],
+    i: usize,
+    frame: &mut u32,
+    values: &mut [f32; 6],
+) -> u32
+    ensures { λ r. ⌜ (let answer = fetch light (scan-at (now (counts .entry)) (now (places .entry)) .lights) i (now (file .entry)) in
+        (r ≡ status answer)
+        × (now (frame .exit) ≡ slot-after (now (frame .entry)) (λ l. l .frame) answer)
+        × (now (values .exit) ≡ slot-after (now (values .entry)) light-values answer)) ⌝ }
+{
+    match vmd_reader::light_frame(file, opening_of(counts, places), i) {
+        VmdLightAnswer::Refused(k) => k.number(),
+        VmdLightAnswer::Found(x) => {
+            *frame = x.frame;
+            *values = [
+                x.color_r,
+                x.color_g,
+                x.color_b,
+                x.direction_x,
+                x.direction_y,
+                x.direction_z,
+            ];
+            0
+        }
+    }
+}
+
+#[no_mangle]
+pub extern "C" fn vmd_light_frame_bits(
+    file: &[u8],
+    counts: &[u32; 6],
+    places: &[u64; 6],
+    i: usize,
+    fields: &mut [u32; 7],
+) -> u32
+    ensures { λ r. ⌜ (let answer = fetch light (scan-at (now (counts .entry)) (now (places .entry)) .lights) i (now (file .entry)) in
+        (r ≡ status answer)
+        × (now (fields .exit) ≡ slot-after (now (fields .entry)) light-words answer)) ⌝ }
+{
+    match vmd_reader::light_frame_bits(file, opening_of(counts, places), i) {
+        VmdLightBitsAnswer::Refused(k) => k.number(),
+        VmdLightBitsAnswer::Found(x) => {
+            *fields = [
+                x.frame,
+                x.color_r,
+                x.color_g,
+                x.color_b,
+                x.direction_x,
+                x.direction_y,
+                x.direction_z,
+            ];
+            0
+        }
+    }
+}
+
+#[no_mangle]
+pub extern "C" fn vmd_self_shadow_frame(
+    file: &[u8],
+    counts: &[u32; 6],
+    places: &[u64; 6],
+    i: usize,
+    fields: &mut [u32; 3],
+) -> u32
+    ensures { λ r. ⌜ (let answer = fetch self-shadow (scan-at (now (counts .entry)) (now (places .entry)) .self-shadows) i (now (file .entry)) in
+        (r ≡ status answer)
+        × (now (fields .exit) ≡ slot-after (now (fields .entry)) self-shadow-words answer)) ⌝ }
+{
+    match vmd_reader::self_shadow_frame(file, opening_of(counts, places), i) {
+        VmdSelfShadowAnswer::Refused(k) => k.number(),
+        VmdSelfShadowAnswer::Found(x) => {
+            let mode = wide(x.mode);
+            *fields = [x.frame, mode, x.distance];
+            0
+        }
+    }
+}
+
+#[no_mangle]
+pub extern "C" fn vmd_property_frame(
+    file: &[u8],
+    counts: &[u32; 6],
+    places: &[u64; 6],
+    scratch: &[u64],
+    i: usize,
+    fields: &mut [u32; 3],
+) -> u32
+    ensures { λ r. ⌜ (let answer = fetch-property (scan-at (now (counts .entry)) (now (places .entry)) .properties) (now (scratch .entry)) i (now (file .entry)) in
+        (r ≡ status answer)
+        × (now (fields .exit) ≡ slot-after (now (fields .entry)) property-words answer)) ⌝ }
+{
+    match vmd_reader::property_frame(file, opening_of(counts, places), scratch, i) {
+        VmdPropertyAnswer::Refused(k) => k.number(),
+        VmdPropertyAnswer::Found(x) => {
+            let visible = wide(vmd_bytes::flag_to_byte(x.visible));
+            *fields = [x.frame, visible, x.ik_count];
+            0
+        }
+    }
+}
+
+#[no_mangle]
+pub extern "C" fn vmd_ik_state(
+    file: &[u8],
+    counts: &[u32; 6],
+    places: &[u64; 6],
+    scratch: &[u64],
+    i: usize,
+    j: usize,
+    enabled: &mut u32,
+) -> u32
+    ensures { λ r. ⌜ (let answer = fetch-ik-state (scan-at (now (counts .entry)) (now (places .entry)) .properties) (now (scratch .entry)) i j (now (file .entry)) in
+        (r ≡ status answer)
+        × (now (enabled .exit) ≡ slot-after (now (enabled .entry)) (λ k. flag-byte (k .enabled)) answer)) ⌝ }
+{
+    match vmd_reader::ik_state(file, opening_of(counts, places), scratch, i, j) {
+        VmdIkStateAnswer::Refused(k) => k.number(),
+        VmdIkStateAnswer::Found(x) => {
+            *enabled = wide(vmd_bytes::flag_to_byte(x.enabled));
+            0
+        }
+    }
+}
+
+// ---- names and interpolation bytes. Where there are bytes, the record is whole in the file, and no sum wraps.
+
+// Where a record's interpolation bytes begin.
+const BONE_INTERPOLATION_OFFSET: usize = 47;
+
+const CAMERA_INTERPOLATION_OFFSET: usize = 32;
+
+#[no_mangle]
+pub extern "C" fn vmd_bone_name(
+    file: &[u8],
+    counts: &[u32; 6],
+    places: &[u64; 6],
+    i: usize,
+    part: &mut [u64; 2],
+)
+    ensures { λ _. ⌜ (let p = scan-at (now (counts .entry)) (now (places .entry)) .bones in
+        now (part .exit) ≡ part-words (p .place + i * 111) (or-empty (map-answer (λ x. x .name) (fetch bone p i (now (file .entry)))))) ⌝ }
+{
+    let n = vmd_reader::bone_name(file, opening_of(counts, places), i).len();
+    if n == 0 {
+        *part = [0, 0];
+        return;
+    }
+    let at = places[0] as usize + i * VmdParsedBoneFrame::SIZE;
+    *part = [at as u64, n as u64];
+}
+
+#[no_mangle]
+pub extern "C" fn vmd_morph_name(
+    file: &[u8],
+    counts: &[u32; 6],
+    places: &[u64; 6],
+    i: usize,
+    part: &mut [u64; 2],
+)
+    ensures { λ _. ⌜ (let p = scan-at (now (counts .entry)) (now (places .entry)) .morphs in
+        now (part .exit) ≡ part-words (p .place + i * 23) (or-empty (map-answer (λ x. x .name) (fetch morph p i (now (file .entry)))))) ⌝ }
+{
+    let n = vmd_reader::morph_name(file, opening_of(counts, places), i).len();
+    if n == 0 {
+        *part = [0, 0];
+        return;
+    }
+    let at = places[1] as usize + i * VmdParsedMorphFrame::SIZE;
+    *part = [at as u64, n as u64];
+}
+
+#[no_mangle]
+pub extern "C" fn vmd_ik_name(
+    file: &[u8],
+    counts: &[u32; 6],
+    places: &[u64; 6],
+    scratch: &[u64],
+    i: usize,
+    j: usize,
+    part: &mut [u64; 2],
+)
+    ensures { λ _. ⌜ (let p = scan-at (now (counts .entry)) (now (places .entry)) .properties in
+        now (part .exit) ≡ part-words (getD (now (scratch .entry)) i 0 + 9 + j * 21) (or-empty (map-answer (λ x. x .name) (fetch-ik-state p (now (scratch .entry)) i j (now (file .entry)))))) ⌝ }
+{
+    let n = vmd_reader::ik_name(file, opening_of(counts, places), scratch, i, j).len();
+    if n == 0 {
+        *part = [0, 0];
+        return;
+    }
+    let at = scratch[i] as usize + VmdParsedPropertyFrame::SIZE + j * VmdParsedIkState::SIZE;
+    *part = [at as u64, n as u64];
+}
+
+#[no_mangle]
+pub extern "C" fn vmd_model_name(file: &[u8], part: &mut [u64; 2])
+    ensures { λ _. ⌜ now (part .exit) ≡ part-words 30 (model-of (now (file .entry))) ⌝ }
+{
+    let n = vmd_reader::model_name(file).len();
+    if n == 0 {
+        *part = [0, 0];
+        return;
+    }
+    *part = [vmd_scan::MAGIC_SIZE as u64, n as u64];
+}
+
+#[no_mangle]
+pub extern "C" fn vmd_bone_interpolation(
+    file: &[u8],
+    counts: &[u32; 6],
+    places: &[u64; 6],
+    i: usize,
+    part: &mut [u64; 2],
+)
+    ensures { λ _. ⌜ (let p = scan-at (now (counts .entry)) (now (places .entry)) .bones in
+        now (part .exit) ≡ part-words (p .place + i * 111 + 47) (or-empty (map-answer (λ x. x .interpolation) (fetch bone p i (now (file .entry)))))) ⌝ }
+{
+    let n = vmd_reader::bone_interpolation(file, opening_of(counts, places), i).len();
+    if n == 0 {
+        *part = [0, 0];
+        return;
+    }
+    let at = places[0] as usize + i * VmdParsedBoneFrame::SIZE + BONE_INTERPOLATION_OFFSET;
+    *part = [at as u64, n as u64];
+}
+
+#[no_mangle]
+pub extern "C" fn vmd_camera_interpolation(
+    file: &[u8],
+    counts: &[u32; 6],
+    places: &[u64; 6],
+    i: usize,
+    part: &mut [u64; 2],
+)
+    ensures { λ _. ⌜ (let p = scan-at (now (counts .entry)) (now (places .entry)) .cameras in
+        now (part .exit) ≡ part-words (p .place + i * 61 + 32) (or-empty (map-answer (λ x. x .interpolation) (fetch camera p i (now (file .entry)))))) ⌝ }
+{
+    let n = vmd_reader::camera_interpolation(file, opening_of(counts, places), i).len();
+    if n == 0 {
+        *part = [0, 0];
+        return;
+    }
+    let at = places[2] as usize + i * VmdParsedCameraFrame::SIZE + CAMERA_INTERPOLATION_OFFSET;
+    *part = [at as u64, n as u64];
+}
+
+// ---- saving and joining
+
+// Hands over what a call that saves answers: the status is the result, and the slot receives the length.
+fn report_written(answer: VmdWritten, slot: &mut u64) -> u32
+    ensures { λ r. ⌜ r ≡ status (written-answer answer) ⌝ }
+    ensures { λ _. ⌜ now (slot .exit) ≡ slot-after (now (slot .entry)) (λ n. n) (written-answer answer) ⌝ }
+{
+    match answer {
+        VmdWritten::Refused(k) => k.number(),
+        VmdWritten::Bytes(n) => {
+            *slot = n;
+            0
+        }
+    }
+}
+
+#[no_mangle]
+pub extern "C" fn vmd_export_size(file: &[u8], size: &mut u64) -> u32
+    ensures { λ r. ⌜ (let answer = export-size (now (file .entry)) in
+        (r ≡ status answer)
+        × (now (size .exit) ≡ slot-after (now (size .entry)) (λ n. n) answer)) ⌝ }
+{
+    report_written(vmd_export::export_vmd_size(file), size)
+}
+
+#[no_mangle]
+pub extern "C" fn vmd_export_animation(file: &[u8], out: &mut [u8], written: &mut u64) -> u32
+    ensures { λ r. ⌜ (let answer = exported-answer (now (file .entry)) (now (out .entry)) in
+        (r ≡ status answer)
+        × (now (written .exit) ≡ slot-after (now (written .entry)) (λ n. n) answer)
+        × (now (out .exit) ≡ exported-output (now (file .entry)) (now (out .entry)))) ⌝ }
+{
+    report_written(vmd_export::export_vmd_animation(file, out), written)
+}
+
+#[no_mangle]
+pub extern "C" fn vmd_join_size(first: &[u8], second: &[u8], size: &mut u64) -> u32
+    ensures { λ r. ⌜ (let answer = join-size (now (first .entry)) (now (second .entry)) in
+        (r ≡ status answer)
+        × (now (size .exit) ≡ slot-after (now (size .entry)) (λ n. n) answer)) ⌝ }
+{
+    report_written(vmd_export::join_vmd_size(first, second), size)
+}
+
+#[no_mangle]
+pub extern "C" fn vmd_join_animations<'a>(
+    first: &'a [u8],
+    second: &'a [u8],
+    out: &mut [u8],
+    written: &mut u64,
+) -> u32
+    ensures { λ r. ⌜ (let answer = joined-answer (now (first .entry)) (now (second .entry)) (now (out .entry)) in
+        (r ≡ status answer)
+        × (now (written .exit) ≡ slot-after (now (written .entry)) (λ n. n) answer)
+        × (now (out .exit) ≡ joined-output (now (first .entry)) (now (second .entry)) (now (out .entry)))) ⌝ }
+{
+    report_written(vmd_export::join_vmd_animations(first, second, out), written)
+}
+
+#[no_mangle]
+pub extern "C" fn vmd_joined_model<'a>(first: &'a [u8], second: &'a [u8], part: &mut [u64; 3])
+    ensures { λ _. ⌜ now (part .exit) ≡ joined-words (model-of (now (first .entry))) (model-of (now (second .entry))) ⌝ }
+{
+    let n = vmd_export::joined_model(first, second).len();
+    if n == 0 {
+        *part = [0, 0, 0];
+        return;
+    }
+    if vmd_reader::model_name(first).len() == 0 {
+        *part = [1, vmd_scan::MAGIC_SIZE as u64, n as u64];
+        return;
+    }
+    *part = [0, vmd_scan::MAGIC_SIZE as u64, n as u64];
+}
+
+// ---- building
+
+#[no_mangle]
+pub extern "C" fn vmd_first_fault(name: &[u8]) -> usize
+    ensures { λ r. ⌜ r ≡ fault (now (name .entry)) ⌝ }
+{
+    vmd_names::first_fault(name)
+}
+
+// As report_written, of a call that builds.
+fn report_built(answer: VmdBuilt, slot: &mut u64) -> u32
+    ensures { λ r. ⌜ r ≡ status (built-answer answer) ⌝ }
+    ensures { λ _. ⌜ now (slot .exit) ≡ slot-after (now (slot .entry)) (λ n. n) (built-answer answer) ⌝ }
+{
+    match answer {
+        VmdBuilt::Refused(k) => k.number(),
+        VmdBuilt::Bytes(length) => {
+            *slot = length;
+            0
+        }
+    }
+}
+
+#[no_mangle]
+pub extern "C" fn vmd_build_size(
+    model_name: &[u8],
+    bone_name_bytes: &[u8],
+    bone_name_ends: &[u32],
+    morph_name_bytes: &[u8],
+    morph_name_ends: &[u32],
+    camera_frames: &[u8],
+    light_frames: &[u8],
+    self_shadow_frames: &[u8],
+    property_frames: &[u8],
+    bone_name_indices: &[u32],
+    bone_frames: &[u32],
+    bone_translations_xyz: &[f32],
+    bone_rotations_xyzw: &[f32],
+    bone_interpolations: &[u8],
+    morph_name_indices: &[u32],
+    morph_frames: &[u32],
+    morph_weights: &[f32],
+    size: &mut u64,
+) -> u32
+    ensures { λ r. ⌜ (let answer = map-answer length (fitted 18446744073709551615 (build (parts-of
+        (now («model_name» .entry)) (now («bone_name_bytes» .entry)) (now («bone_name_ends» .entry)) (now («morph_name_bytes» .entry))
+        (now («morph_name_ends» .entry)) (now («camera_frames» .entry)) (now («light_frames» .entry)) (now («self_shadow_frames» .entry))
+        (now («property_frames» .entry)) (now («bone_name_indices» .entry)) (now («bone_frames» .entry)) (now («bone_translations_xyz» .entry))
+        (now («bone_rotations_xyzw» .entry)) (now («bone_interpolations» .entry)) (now («morph_name_indices» .entry)) (now («morph_frames» .entry))
+        (now («morph_weights» .entry))))) in
+        (r ≡ status answer)
+        × (now (size .exit) ≡ slot-after (now (size .entry)) (λ n. n) answer)) ⌝ }
+{
+    let answer = vmd_parts::build_vmd_size(
+        model_name,
+        bone_name_bytes,
+        bone_name_ends,
+        morph_name_bytes,
+        morph_name_ends,
+        camera_frames,
+        light_frames,
+        self_shadow_frames,
+        property_frames,
+        bone_name_indices,
+        bone_frames,
+        bone_translations_xyz,
+        bone_rotations_xyzw,
+        bone_interpolations,
+        morph_name_indices,
+        morph_frames,
+        morph_weights,
+    );
+    report_built(answer, size)
+}
+
+#[no_mangle]
+pub extern "C" fn vmd_build_animation_from_parts(
+    model_name: &[u8],
+    bone_name_bytes: &[u8],
+    bone_name_ends: &[u32],
+    morph_name_bytes: &[u8],
+    morph_name_ends: &[u32],
+    camera_frames: &[u8],
+    light_frames: &[u8],
+    self_shadow_frames: &[u8],
+    property_frames: &[u8],
+    bone_name_indices: &[u32],
+    bone_frames: &[u32],
+    bone_translations_xyz: &[f32],
+    bone_rotations_xyzw: &[f32],
+    bone_interpolations: &[u8],
+    morph_name_indices: &[u32],
+    morph_frames: &[u32],
+    morph_weights: &[f32],
+    out: &mut [u8],
+    written: &mut u64,
+) -> u32
+    ensures { λ r. ⌜ (let file = fitted (length (now (out .entry))) (build (parts-of
+        (now («model_name» .entry)) (now («bone_name_bytes» .entry)) (now («bone_name_ends» .entry)) (now («morph_name_bytes» .entry))
+        (now («morph_name_ends» .entry)) (now («camera_frames» .entry)) (now («light_frames» .entry)) (now («self_shadow_frames» .entry))
+        (now («property_frames» .entry)) (now («bone_name_indices» .entry)) (now («bone_frames» .entry)) (now («bone_translations_xyz» .entry))
+        (now («bone_rotations_xyzw» .entry)) (now («bone_interpolations» .entry)) (now («morph_name_indices» .entry)) (now («morph_frames» .entry))
+        (now («morph_weights» .entry)))) in
+        (r ≡ status (map-answer length file))
+        × (now (written .exit) ≡ slot-after (now (written .entry)) (λ n. n) (map-answer length file))
+        × (now (out .exit) ≡ left (now (out .entry)) file)) ⌝ }
+{
+    let answer = vmd_parts::build_vmd_animation_from_parts(
+        model_name,
+        bone_name_bytes,
+        bone_name_ends,
+        morph_name_bytes,
+        morph_name_ends,
+        camera_frames,
+        light_frames,
+        self_shadow_frames,
+        property_frames,
+        bone_name_indices,
+        bone_frames,
+        bone_translations_xyz,
+        bone_rotations_xyzw,
+        bone_interpolations,
+        morph_name_indices,
+        morph_frames,
+        morph_weights,
+        out,
+    );
+    report_built(answer, written)
+}

@@ -1,0 +1,207 @@
+/*
+ * VMD takes (MikuMikuDance motion files): read, saved, joined and built.
+ *
+ * The functions are those of the proved library, built by 'rt staticlib vmd_c'. They allocate nothing, keep no state, and
+ * can be called from any thread.
+ *
+ * Answers. A function that returns uint32_t returns 0, or the number of a refusal (vmd_refusal below). After a refusal every
+ * buffer and slot that was lent is as it was.
+ *
+ * Slices are a pointer and a number of elements. Each pointer must be aligned for its type and good for that many elements;
+ * where the number is 0 the pointer is not used and may be null. Slots (counts, places, record, part, ..) are arrays of the
+ * length written here, or single numbers, and never null.
+ *
+ * What a function writes must not overlap anything else that is lent to the same call.
+ *
+ * Floats are handed out as their 32 bits, so that every NaN keeps its payload; only vmd_light_frame and the builder's
+ * columns have float values.
+ */
+#ifndef VMD_H
+#define VMD_H
+
+#include <stddef.h>
+#include <stdint.h>
+
+#ifdef __cplusplus
+extern "C" {
+#endif
+
+enum vmd_refusal {
+    VMD_OK = 0,
+    VMD_ENDS_EARLY = 1,         /* the file ends early */
+    VMD_MAGIC_DIFFERS = 2,      /* not a VMD file */
+    VMD_SCRATCH_TOO_SHORT = 3,  /* fewer scratch places than property frames */
+    VMD_OUTSIDE = 4,            /* record or IK number at or above the count, or its place outside the file */
+    VMD_PARTS_NOT_WHOLE = 5,    /* name table ends wrong, records not whole, properties cut or with bytes over */
+    VMD_NAME_UNFIT = 6,         /* model name over 20 bytes, table name over 15, or a zero byte in one */
+    VMD_NAME_NOT_GOOD = 7,      /* name bytes not good Shift_JIS */
+    VMD_NOT_FINITE = 8,         /* camera, light, bone or morph float not finite */
+    VMD_SELF_SHADOW_UNFIT = 9,  /* self-shadow distance not finite, or mode above 2 */
+    VMD_COLUMNS_DISAGREE = 10,  /* bone or morph column lengths disagree */
+    VMD_COUNT_TOO_LARGE = 11,   /* a section count above 4,294,967,295 */
+    VMD_NAME_INDEX = 12,        /* name index at or above the table's length */
+    VMD_OUTPUT_TOO_SHORT = 13   /* output shorter than the file to be written */
+};
+
+/* Bytes of each record in a file. */
+enum {
+    VMD_BONE_SIZE = 111,
+    VMD_MORPH_SIZE = 23,
+    VMD_CAMERA_SIZE = 61,
+    VMD_LIGHT_SIZE = 28,
+    VMD_SELF_SHADOW_SIZE = 9,
+    VMD_PROPERTY_SIZE = 9, /* without its IK states */
+    VMD_IK_STATE_SIZE = 21
+};
+
+/* The sections' indices in counts and places. */
+enum {
+    VMD_BONES = 0,
+    VMD_MORPHS = 1,
+    VMD_CAMERAS = 2,
+    VMD_LIGHTS = 3,
+    VMD_SELF_SHADOWS = 4,
+    VMD_PROPERTIES = 5
+};
+
+/* ---- opening */
+
+/*
+ * Checks a whole file. counts receives the number of records of each section, places where each section's records begin (the
+ * file's length where its count is missing or it was emptied), totals the number of IK states and the largest frame (0 with
+ * no records). scratch receives the byte position of each property frame, first places first; further places keep their
+ * contents. Refusals: 1, 2, 3.
+ */
+uint32_t vmd_parse_animation(const uint8_t *file, size_t file_len, uint64_t *scratch, size_t scratch_len,
+                             uint32_t counts[6], uint64_t places[6], uint64_t totals[2]);
+
+/*
+ * ---- records by number
+ *
+ * counts, places and scratch are an opening's. With those of another file a call gives the record that the layout reads at
+ * the place they name, or 4. The only refusal is 4.
+ */
+
+/* frame, translation x y z, rotation x y z w */
+uint32_t vmd_bone_frame(const uint8_t *file, size_t file_len, const uint32_t counts[6], const uint64_t places[6], size_t i,
+                        uint32_t record[8]);
+/* frame, weight */
+uint32_t vmd_morph_frame(const uint8_t *file, size_t file_len, const uint32_t counts[6], const uint64_t places[6], size_t i,
+                         uint32_t record[2]);
+/* frame, distance, position x y z, rotation x y z, field of view, perspective (1 where it is on: the file's byte is 0) */
+uint32_t vmd_camera_frame(const uint8_t *file, size_t file_len, const uint32_t counts[6], const uint64_t places[6], size_t i,
+                          uint32_t record[10]);
+/* color r g b, direction x y z; a NaN is some NaN */
+uint32_t vmd_light_frame(const uint8_t *file, size_t file_len, const uint32_t counts[6], const uint64_t places[6], size_t i,
+                         uint32_t *frame, float values[6]);
+/* frame, color r g b, direction x y z */
+uint32_t vmd_light_frame_bits(const uint8_t *file, size_t file_len, const uint32_t counts[6], const uint64_t places[6],
+                              size_t i, uint32_t record[7]);
+/* frame, mode, distance */
+uint32_t vmd_self_shadow_frame(const uint8_t *file, size_t file_len, const uint32_t counts[6], const uint64_t places[6],
+                               size_t i, uint32_t record[3]);
+/* frame, visible (0 or 1), number of IK states */
+uint32_t vmd_property_frame(const uint8_t *file, size_t file_len, const uint32_t counts[6], const uint64_t places[6],
+                            const uint64_t *scratch, size_t scratch_len, size_t i, uint32_t record[3]);
+/* IK state j of property frame i: enabled (0 or 1) */
+uint32_t vmd_ik_state(const uint8_t *file, size_t file_len, const uint32_t counts[6], const uint64_t places[6],
+                      const uint64_t *scratch, size_t scratch_len, size_t i, size_t j, uint32_t *enabled);
+
+/*
+ * ---- names and interpolation bytes
+ *
+ * part receives where the bytes begin in the file, and how many there are; 0, 0 where there are none. A name ends before its
+ * first zero byte. Where there is no such record, or the header of the file is refused, there are none. These calls do not
+ * refuse.
+ */
+
+void vmd_bone_name(const uint8_t *file, size_t file_len, const uint32_t counts[6], const uint64_t places[6], size_t i,
+                   uint64_t part[2]);
+void vmd_morph_name(const uint8_t *file, size_t file_len, const uint32_t counts[6], const uint64_t places[6], size_t i,
+                    uint64_t part[2]);
+void vmd_ik_name(const uint8_t *file, size_t file_len, const uint32_t counts[6], const uint64_t places[6],
+                 const uint64_t *scratch, size_t scratch_len, size_t i, size_t j, uint64_t part[2]);
+void vmd_model_name(const uint8_t *file, size_t file_len, uint64_t part[2]);
+/* 64 bytes */
+void vmd_bone_interpolation(const uint8_t *file, size_t file_len, const uint32_t counts[6], const uint64_t places[6],
+                            size_t i, uint64_t part[2]);
+/* 24 bytes */
+void vmd_camera_interpolation(const uint8_t *file, size_t file_len, const uint32_t counts[6], const uint64_t places[6],
+                              size_t i, uint64_t part[2]);
+
+/*
+ * ---- saving and joining
+ *
+ * The file is written at the front of out, and written receives its length; the rest of out keeps its contents. The size
+ * calls give the length alone, so that out can be made long enough; what they give is exact.
+ */
+
+/* Refusals: 1, 2; 13 where no 64-bit length could hold the file. */
+uint32_t vmd_export_size(const uint8_t *file, size_t file_len, uint64_t *size);
+/* Refusals: 1, 2, 13. */
+uint32_t vmd_export_animation(const uint8_t *file, size_t file_len, uint8_t *out, size_t out_len, uint64_t *written);
+/* Refusals: those of the first file, of the second, 11; 13 where no 64-bit length could hold the file. */
+uint32_t vmd_join_size(const uint8_t *first, size_t first_len, const uint8_t *second, size_t second_len, uint64_t *size);
+/* Every section is the first file's records, then the second's. Refusals: those of the first file, of the second, 11, 13. */
+uint32_t vmd_join_animations(const uint8_t *first, size_t first_len, const uint8_t *second, size_t second_len, uint8_t *out,
+                             size_t out_len, uint64_t *written);
+/*
+ * The model name of the join: the first file's where that is not empty, else the second's. part receives which file it is in
+ * (0 the first, 1 the second), where it begins there, and its length; 0, 0, 0 where both are empty.
+ */
+void vmd_joined_model(const uint8_t *first, size_t first_len, const uint8_t *second, size_t second_len, uint64_t part[3]);
+
+/*
+ * ---- building
+ *
+ * A name table is bytes, and the end of each name in them: never falling, the last equal to the number of bytes; with no
+ * names the bytes are empty. Cameras, lights, self-shadows and properties are back-to-back records as a file has them. Bones
+ * and morphs are columns: a name's index in its table, a frame, and for a bone three, four and 64 values, for a morph one.
+ */
+
+/* The place of the first byte that starts neither a good single byte nor a good pair; the length where all is good. */
+size_t vmd_first_fault(const uint8_t *name, size_t name_len);
+
+/* Refusals: 5 to 12; 13 where no 64-bit length could hold the file. */
+uint32_t vmd_build_size(const uint8_t *model_name, size_t model_name_len,
+                        const uint8_t *bone_name_bytes, size_t bone_name_bytes_len,
+                        const uint32_t *bone_name_ends, size_t bone_name_ends_len,
+                        const uint8_t *morph_name_bytes, size_t morph_name_bytes_len,
+                        const uint32_t *morph_name_ends, size_t morph_name_ends_len,
+                        const uint8_t *camera_frames, size_t camera_frames_len,
+                        const uint8_t *light_frames, size_t light_frames_len,
+                        const uint8_t *self_shadow_frames, size_t self_shadow_frames_len,
+                        const uint8_t *property_frames, size_t property_frames_len,
+                        const uint32_t *bone_name_indices, size_t bone_name_indices_len,
+                        const uint32_t *bone_frames, size_t bone_frames_len,
+                        const float *bone_translations_xyz, size_t bone_translations_xyz_len,
+                        const float *bone_rotations_xyzw, size_t bone_rotations_xyzw_len,
+                        const uint8_t *bone_interpolations, size_t bone_interpolations_len,
+                        const uint32_t *morph_name_indices, size_t morph_name_indices_len,
+                        const uint32_t *morph_frames, size_t morph_frames_len,
+                        const float *morph_weights, size_t morph_weights_len, uint64_t *size);
+/* Refusals: 5 to 13. */
+uint32_t vmd_build_animation_from_parts(const uint8_t *model_name, size_t model_name_len,
+                                        const uint8_t *bone_name_bytes, size_t bone_name_bytes_len,
+                                        const uint32_t *bone_name_ends, size_t bone_name_ends_len,
+                                        const uint8_t *morph_name_bytes, size_t morph_name_bytes_len,
+                                        const uint32_t *morph_name_ends, size_t morph_name_ends_len,
+                                        const uint8_t *camera_frames, size_t camera_frames_len,
+                                        const uint8_t *light_frames, size_t light_frames_len,
+                                        const uint8_t *self_shadow_frames, size_t self_shadow_frames_len,
+                                        const uint8_t *property_frames, size_t property_frames_len,
+                                        const uint32_t *bone_name_indices, size_t bone_name_indices_len,
+                                        const uint32_t *bone_frames, size_t bone_frames_len,
+                                        const float *bone_translations_xyz, size_t bone_translations_xyz_len,
+                                        const float *bone_rotations_xyzw, size_t bone_rotations_xyzw_len,
+                                        const uint8_t *bone_interpolations, size_t bone_interpolations_len,
+                                        const uint32_t *morph_name_indices, size_t morph_name_indices_len,
+                                        const uint32_t *morph_frames, size_t morph_frames_len,
+                                        const float *morph_weights, size_t morph_weights_len,
+                                        uint8_t *out, size_t out_len, uint64_t *written);
+
+#ifdef __cplusplus
+}
+#endif
+
+#endif

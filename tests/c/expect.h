@@ -1,0 +1,135 @@
+/*
+ * What opening a file and fetching from it have to give, read off the format's description. It shares no code with the
+ * library.
+ */
+#ifndef EXPECT_H
+#define EXPECT_H
+
+#include "take.h"
+
+enum { MOST_FRAMES = 2048 };
+
+static const size_t record_sizes[SECTIONS] = {111, 23, 61, 28, 9, 9};
+
+struct opening {
+    uint32_t counts[SECTIONS];
+    uint64_t places[SECTIONS];
+    uint64_t totals[2]; /* IK states, largest frame */
+    size_t n_frames;
+    uint64_t frames[MOST_FRAMES]; /* where each property frame begins */
+};
+
+static inline void larger(uint64_t *largest, uint32_t frame)
+{
+    if (frame > *largest)
+        *largest = frame;
+}
+
+/* The refusal, or 0 and the opening. */
+static inline uint32_t expected_opening(const uint8_t *file, size_t len, struct opening *o)
+{
+    size_t at = 50, s, i, j;
+    memset(o, 0, sizeof *o);
+    if (len < 30)
+        return 1;
+    if (memcmp(file, "Vocaloid Motion Data 0002", 26) != 0)
+        return 2;
+    if (len < 50)
+        return 1;
+    for (s = 0; s < SECTIONS; s++) {
+        uint32_t count;
+        o->places[s] = len;
+        if (s > 0 && at == len)
+            continue;
+        if (len - at < 4)
+            return 1;
+        count = u32_at(file + at);
+        at += 4;
+        if (count > (len - at) / record_sizes[s]) {
+            if (s < 2 || s == 5)
+                return 1;
+            at = len;
+            continue;
+        }
+        o->counts[s] = count;
+        o->places[s] = at;
+        for (i = 0; i < count; i++) {
+            uint32_t states;
+            if (s < 5) {
+                larger(&o->totals[1], u32_at(file + at + (s < 2 ? 15 : 0)));
+                at += record_sizes[s];
+                continue;
+            }
+            if (len - at < 9)
+                return 1;
+            if (i == MOST_FRAMES) {
+                fprintf(stderr, "the test's own file has too many property frames\n");
+                exit(2);
+            }
+            o->frames[i] = at;
+            larger(&o->totals[1], u32_at(file + at));
+            states = u32_at(file + at + 5);
+            at += 9;
+            for (j = 0; j < states; j++) {
+                if (len - at < 21)
+                    return 1;
+                at += 21;
+            }
+            o->totals[0] += states;
+        }
+    }
+    o->n_frames = o->counts[5];
+    return 0;
+}
+
+/* What a fetch is given: any file, with any opening and scratch. */
+struct view {
+    const uint8_t *file;
+    size_t len;
+    const uint32_t *counts;
+    const uint64_t *places;
+    const uint64_t *scratch;
+    size_t scratch_len;
+};
+
+/* Record i of a section, whole in the file; null where there is none. */
+static inline const uint8_t *expected_record(const struct view *v, int section, size_t i)
+{
+    uint64_t place = v->places[section];
+    if (i >= v->counts[section] || place > v->len || (v->len - place) / record_sizes[section] <= i)
+        return NULL;
+    return v->file + place + record_sizes[section] * i;
+}
+
+static inline const uint8_t *expected_property(const struct view *v, size_t i)
+{
+    if (i >= v->counts[5] || i >= v->scratch_len || v->scratch[i] > v->len || v->len - v->scratch[i] < 9)
+        return NULL;
+    return v->file + v->scratch[i];
+}
+
+static inline const uint8_t *expected_state(const struct view *v, size_t i, size_t j)
+{
+    const uint8_t *frame = expected_property(v, i);
+    if (frame == NULL || j >= u32_at(frame + 5) || (v->len - v->scratch[i] - 9) / 21 <= j)
+        return NULL;
+    return frame + 9 + 21 * j;
+}
+
+/* Where the n bytes at a place of the file are, 0, 0 for none. */
+static inline void expected_part(const struct view *v, const uint8_t *at, size_t n, uint64_t part[2])
+{
+    part[0] = at == NULL || n == 0 ? 0 : (uint64_t)(at - v->file);
+    part[1] = at == NULL ? 0 : n;
+}
+
+/* The same for a name: it ends before its first zero, or fills its field. */
+static inline void expected_name(const struct view *v, const uint8_t *at, size_t width, uint64_t part[2])
+{
+    size_t n = 0;
+    while (at != NULL && n < width && at[n] != 0)
+        n++;
+    expected_part(v, at, n, part);
+}
+
+#endif

@@ -1,0 +1,535 @@
+/*
+ * Saving and joining, through the C interface: every byte of every output, against an encoder of the test's own.
+ *
+ * Not tried: refusal 11 of joining, which needs two files with more than 4,294,967,295 records of a kind between them; the
+ * smallest such pair has 36 GiB.
+ */
+#include "check.h"
+#include "expect.h"
+#include "readback.h"
+#include "vmd.h"
+
+static struct fence lent_first, lent_second, lent_out, lent_slot;
+
+/* A file to save or join: its bytes, and what they mean. */
+struct sample {
+    const char *name;
+    struct bytes file;
+    struct take means;
+};
+
+/* ---- one call, whose output is this long: the answer, the slot, every byte of the output, and the inputs */
+
+static void expect_output(const char *what, uint32_t got, uint32_t number, const struct bytes *expected, size_t out_len)
+{
+    uint64_t len = expected == NULL ? 0 : expected->len;
+    expect_number(what, got, number);
+    if (number != VMD_OK) {
+        expect_lent_unwritten(what, &lent_out);
+        expect_lent_unwritten(what, &lent_slot);
+        return;
+    }
+    expect_lent(what, &lent_slot, &len, sizeof len);
+    expect_unwritten(what, lent_out.at - 64, 64);
+    if (out_len > 0)
+        expect_bytes(what, lent_out.at, expected->at, expected->len);
+    if (out_len > expected->len)
+        expect_unwritten(what, lent_out.at + expected->len, out_len - expected->len);
+}
+
+static void export_into(const struct bytes *file, uint32_t number, const struct bytes *expected, size_t out_len)
+{
+    uint8_t *f = lend(&lent_first, file->at, file->len), *out = lend_unwritten(&lent_out, out_len);
+    uint64_t *written = lend_unwritten(&lent_slot, sizeof *written);
+    expect_output("export_animation", vmd_export_animation(f, file->len, out, out_len, written), number, expected, out_len);
+    expect_lent("file", &lent_first, file->at, file->len);
+}
+
+static void join_into(const struct bytes *first, const struct bytes *second, uint32_t number, const struct bytes *expected,
+                      size_t out_len)
+{
+    uint8_t *f = lend(&lent_first, first->at, first->len), *s = lend(&lent_second, second->at, second->len);
+    uint8_t *out = lend_unwritten(&lent_out, out_len);
+    uint64_t *written = lend_unwritten(&lent_slot, sizeof *written);
+    expect_output("join_animations", vmd_join_animations(f, first->len, s, second->len, out, out_len, written), number,
+                  expected, out_len);
+    expect_lent("first file", &lent_first, first->at, first->len);
+    expect_lent("second file", &lent_second, second->at, second->len);
+}
+
+static void expect_size(const char *what, uint32_t got, uint32_t number, uint64_t size)
+{
+    expect_number(what, got, number);
+    if (number == VMD_OK)
+        expect_lent(what, &lent_slot, &size, sizeof size);
+    else
+        expect_lent_unwritten(what, &lent_slot);
+}
+
+static void size_of_export(const struct bytes *file, uint32_t number, uint64_t size)
+{
+    uint8_t *f = lend(&lent_first, file->at, file->len);
+    expect_size("export_size", vmd_export_size(f, file->len, lend_unwritten(&lent_slot, 8)), number, size);
+    expect_lent("file", &lent_first, file->at, file->len);
+}
+
+static void size_of_join(const struct bytes *first, const struct bytes *second, uint32_t number, uint64_t size)
+{
+    uint8_t *f = lend(&lent_first, first->at, first->len), *s = lend(&lent_second, second->at, second->len);
+    expect_size("join_size", vmd_join_size(f, first->len, s, second->len, lend_unwritten(&lent_slot, 8)), number, size);
+    expect_lent("first file", &lent_first, first->at, first->len);
+    expect_lent("second file", &lent_second, second->at, second->len);
+}
+
+/* An export or join that is to be these bytes: into an output of just this length, longer, shorter, and of no length. */
+static void try_export(const struct bytes *file, const struct bytes *expected)
+{
+    size_of_export(file, VMD_OK, expected->len);
+    export_into(file, VMD_OK, expected, expected->len);
+    export_into(file, VMD_OK, expected, expected->len + 100);
+    export_into(file, VMD_OUTPUT_TOO_SHORT, NULL, expected->len - 1);
+    export_into(file, VMD_OUTPUT_TOO_SHORT, NULL, 0);
+}
+
+static void try_join(const struct bytes *first, const struct bytes *second, const struct bytes *expected)
+{
+    size_of_join(first, second, VMD_OK, expected->len);
+    join_into(first, second, VMD_OK, expected, expected->len);
+    join_into(first, second, VMD_OK, expected, expected->len + 100);
+    join_into(first, second, VMD_OUTPUT_TOO_SHORT, NULL, expected->len - 1);
+    join_into(first, second, VMD_OUTPUT_TOO_SHORT, NULL, 0);
+}
+
+/* ---- the samples */
+
+enum { MOST_SAMPLES = 20 };
+
+static struct sample samples[MOST_SAMPLES];
+static size_t n_samples;
+
+static struct sample *add(const char *name, const struct take *means, enum manner manner)
+{
+    struct sample *s = &samples[n_samples++];
+    s->name = name;
+    s->means = *means;
+    encode(&s->file, means, manner);
+    return s;
+}
+
+/* Both zeros, infinities, NaNs quiet and signalling with payloads, the least and the largest. */
+static const uint32_t odd_floats[] = {
+    0x00000000, 0x80000000, 0x7F800000, 0xFF800000, 0x7FC00000, 0xFFC00001, 0x7F800001, 0xFFBFFFFF, 0x7FFFFFFF, 0x00000001,
+    0x7F7FFFFF
+};
+enum { ODD = sizeof odd_floats / sizeof *odd_floats };
+
+/* Every float of every record is an odd one: from this one on, another each time. */
+static struct take odd_floats_take(size_t from)
+{
+    struct take t = distinct_take(1, 3, 3, 3, 3, 3, 1);
+    size_t i, k;
+    for (i = 0; i < 3; i++) {
+        for (k = 0; k < 7; k++) {
+            t.bones[i].floats[k] = odd_floats[from++ % ODD];
+            t.cameras[i].floats[k] = odd_floats[from++ % ODD];
+        }
+        for (k = 0; k < 6; k++)
+            t.lights[i].floats[k] = odd_floats[from++ % ODD];
+        t.morphs[i].weight = odd_floats[from++ % ODD];
+        t.self_shadows[i].distance = odd_floats[from++ % ODD];
+    }
+    return t;
+}
+
+/* Sections left out at the end, counts that no section can have, bytes over: what each means is told here by hand. */
+static void add_lenient_samples(void)
+{
+    struct take t = distinct_take(6, 2, 0, 0, 0, 0, 0), whole = distinct_take(0, 1, 1, 2, 2, 2, 2);
+    struct sample *s = add("two bones, and no counts after them", &t, RAW);
+    s->file.len = 50 + 4 + 2 * 111;
+
+    s = add("a camera count that is too large, and lights after it", &whole, RAW);
+    memcpy(s->file.at + 50 + 4 + 111 + 4 + 23, "\x03\0\0\x01", 4);
+    memset(s->means.counts + 2, 0, 4 * sizeof *s->means.counts);
+
+    s = add("a light count that is too large, and self-shadows after it", &whole, RAW);
+    memcpy(s->file.at + 50 + 4 + 111 + 4 + 23 + 4 + 2 * 61, "\xFF\xFF\xFF\xFF", 4);
+    memset(s->means.counts + 3, 0, 3 * sizeof *s->means.counts);
+
+    s = add("a self-shadow count that is too large, and properties after it", &whole, RAW);
+    memcpy(s->file.at + 50 + 4 + 111 + 4 + 23 + 4 + 2 * 61 + 4 + 2 * 28, "\x80\0\0\0", 4);
+    memset(s->means.counts + 4, 0, 2 * sizeof *s->means.counts);
+
+    s = add("bytes after the last property frame", &whole, RAW);
+    put(&s->file, s->file.at, 50);
+}
+
+static void make_samples(void)
+{
+    struct take t = empty_take();
+    struct sample *s = add("start,0", &t, CANONICAL);
+    s->file.len = 54;
+    add("the empty take's export", &t, CANONICAL);
+    t = distinct_take(8, 0, 0, 0, 0, 0, 0);
+    add("a model name and no records", &t, RAW);
+    t = distinct_take(0, 1, 0, 0, 0, 0, 0);
+    add("one bone", &t, CANONICAL);
+    t = distinct_take(0, 1, 0, 0, 0, 0, 0);
+    add("another bone", &t, RAW);
+    t = distinct_take(20, 3, 2, 3, 2, 3, 4);
+    add("six sections", &t, RAW);
+    t = distinct_take(0, 2, 4, 1, 4, 1, 4);
+    add("six sections and no model name", &t, CANONICAL);
+    t = leg_take();
+    add("a leg that goes off", &t, CANONICAL);
+    t = distinct_take(2, 1, 0, 0, 0, 0, 4);
+    add("another leg", &t, RAW);
+    t = odd_floats_take(0);
+    add("odd floats", &t, RAW);
+    t = distinct_take(19, 0, 4, 4, 0, 0, 0);
+    add("morphs and cameras", &t, RAW);
+    t = distinct_take(0, 0, 0, 0, 3, 3, 0);
+    add("lights and self-shadows", &t, RAW);
+    add_lenient_samples();
+}
+
+/* ---- what is expected of all of them */
+
+static void exports(void)
+{
+    size_t k;
+    for (k = 0; k < n_samples; k++) {
+        const struct sample *s = &samples[k];
+        struct bytes expected;
+        encode(&expected, &s->means, CANONICAL);
+        trial("export of %s", s->name);
+        expect_number("the test's own size", expected.len, canonical_size(&s->means));
+        try_export(&s->file, &expected);
+        trial("export of the export of %s", s->name);
+        try_export(&expected, &expected);
+    }
+}
+
+/* Every float of a record is each odd one in turn. */
+static void odd_floats_anywhere(void)
+{
+    size_t n;
+    for (n = 0; n < ODD; n++) {
+        struct take t = odd_floats_take(n), both = joined(&t, &t);
+        struct bytes b, expected;
+        encode(&b, &t, RAW);
+        encode(&expected, &t, CANONICAL);
+        trial("odd floats from the %zuth on", n);
+        try_export(&b, &expected);
+        encode(&expected, &both, CANONICAL);
+        try_join(&b, &b, &expected);
+    }
+}
+
+/* Each with each. With the empty take, on either side, this is the other's export. */
+static void joins(void)
+{
+    size_t k, l;
+    for (k = 0; k < n_samples; k++)
+        for (l = 0; l < n_samples; l++) {
+            const struct sample *first = &samples[k], *second = &samples[l];
+            struct take means = joined(&first->means, &second->means);
+            struct bytes expected;
+            encode(&expected, &means, CANONICAL);
+            trial("join of %s with %s", first->name, second->name);
+            try_join(&first->file, &second->file, &expected);
+        }
+}
+
+static void empty_takes_on_either_side(void)
+{
+    size_t k, e;
+    for (k = 0; k < n_samples; k++)
+        for (e = 0; e < 2; e++) {
+            struct bytes export;
+            uint64_t len = 0;
+            trial("%s joined with %s", samples[k].name, samples[e].name);
+            expect_number("export", vmd_export_animation(samples[k].file.at, samples[k].file.len, export.at, sizeof export.at,
+                                                         &len), VMD_OK);
+            export.len = len;
+            join_into(&samples[k].file, &samples[e].file, VMD_OK, &export, export.len);
+            join_into(&samples[e].file, &samples[k].file, VMD_OK, &export, export.len);
+        }
+}
+
+static void join(const struct bytes *first, const struct bytes *second, struct bytes *out)
+{
+    uint64_t len = 0;
+    expect_number("join", vmd_join_animations(first->at, first->len, second->at, second->len, out->at, sizeof out->at, &len),
+                  VMD_OK);
+    out->len = len;
+}
+
+/* Three joined both ways, and the bytes told by the encoder. */
+static void three_joined(void)
+{
+    size_t i, j, k;
+    for (i = 0; i < n_samples; i++)
+        for (j = 0; j < n_samples; j++)
+            for (k = 0; k < n_samples; k++) {
+                struct take means = joined(&samples[i].means, &samples[j].means);
+                struct bytes half, left, right, expected;
+                means = joined(&means, &samples[k].means);
+                encode(&expected, &means, CANONICAL);
+                trial("join of %s, %s and %s", samples[i].name, samples[j].name, samples[k].name);
+                join(&samples[i].file, &samples[j].file, &half);
+                join(&half, &samples[k].file, &left);
+                join(&samples[j].file, &samples[k].file, &half);
+                join(&samples[i].file, &half, &right);
+                expect_number("length, the first two first", left.len, expected.len);
+                expect_number("length, the last two first", right.len, expected.len);
+                expect_bytes("the first two first", left.at, expected.at, expected.len);
+                expect_bytes("the last two first", right.at, expected.at, expected.len);
+            }
+}
+
+/* More records of each kind than one byte can count. */
+static void many_records(void)
+{
+    static struct bytes first, second, expected;
+    struct take t = distinct_take(3, 5, 6, 5, 6, 7, 8);
+    trial("60 times the records of a take");
+    encode_times(&first, &t, 60, RAW);
+    encode_times(&expected, &t, 60, CANONICAL);
+    try_export(&first, &expected);
+    trial("40 times the records of a take, and 50 times");
+    encode_times(&first, &t, 40, RAW);
+    encode_times(&second, &t, 50, RAW);
+    encode_times(&expected, &t, 90, CANONICAL);
+    try_join(&first, &second, &expected);
+}
+
+/* ---- what the paper tells in figures and words */
+
+static void one_bone_each(void)
+{
+    struct take t = distinct_take(0, 1, 0, 0, 0, 0, 0), u = distinct_take(0, 1, 0, 0, 0, 0, 0);
+    struct bytes first, second;
+    uint64_t size = 0, written = 0;
+    uint8_t out[296];
+    trial("two one-bone takes");
+    encode(&first, &t, CANONICAL);
+    encode(&second, &u, CANONICAL);
+    expect_number("length of the first", first.len, 185);
+    expect_number("length of the second", second.len, 185);
+    expect_number("join_size", vmd_join_size(first.at, 185, second.at, 185, &size), VMD_OK);
+    expect_number("join_size", size, 296);
+    expect_number("join", vmd_join_animations(first.at, 185, second.at, 185, out, 296, &written), VMD_OK);
+    expect_number("written", written, 296);
+    expect_number("bone count", u32_at(out + 50), 2);
+    expect_bytes("first bone", out + 54, first.at + 54, 111);
+    expect_bytes("second bone", out + 54 + 111, second.at + 54, 111);
+}
+
+static void bare_take(void)
+{
+    static const uint8_t zeros[24];
+    uint64_t written = 0;
+    uint8_t out[74], file[54] = "Vocaloid Motion Data 0002";
+    trial("export of start,0");
+    expect_number("export", vmd_export_animation(file, 54, out, 74, &written), VMD_OK);
+    expect_number("written", written, 74);
+    expect_bytes("header", out, file, 50);
+    expect_bytes("counts", out + 50, zeros, 24);
+}
+
+/* Perspective bytes 0, 1, 2 are written 0, 1, 1, and every flag but 0 as 1; 0x41 0x00 0x42 is written 0x41 and zeros. */
+static void written_forms(void)
+{
+    struct take t = distinct_take(0, 1, 0, 3, 0, 0, 3);
+    struct bytes b;
+    uint8_t out[1024];
+    uint64_t written = 0;
+    size_t k, cameras = 50 + 4 + 111 + 4 + 4, properties = cameras + 3 * 61 + 4 + 4 + 4;
+    static const uint8_t forms[3] = {0, 1, 1}, zeros[14];
+    for (k = 0; k < 3; k++) {
+        t.cameras[k].perspective = (uint8_t)k;
+        t.properties[k].visible = (uint8_t)k;
+        t.properties[k].n_states = 1;
+        t.properties[k].states[0].name = named("leg");
+        t.properties[k].states[0].enabled = (uint8_t)k;
+    }
+    t.bones[0].name = named("A");
+    encode(&b, &t, CANONICAL);
+    for (k = 0; k < 3; k++) {
+        b.at[cameras + 61 * k + 60] = (uint8_t)k;
+        b.at[properties + 30 * k + 4] = (uint8_t)k;
+        b.at[properties + 30 * k + 29] = (uint8_t)k;
+    }
+    memcpy(b.at + 54, "A\0B", 3);
+    trial("written forms");
+    expect_number("export", vmd_export_animation(b.at, b.len, out, sizeof out, &written), VMD_OK);
+    expect_number("written", written, b.len);
+    for (k = 0; k < 3; k++) {
+        expect_number("perspective byte", out[cameras + 61 * k + 60], forms[k]);
+        expect_number("visible byte", out[properties + 30 * k + 4], forms[k]);
+        expect_number("enabled byte", out[properties + 30 * k + 29], forms[k]);
+    }
+    expect_number("name", out[54], 'A');
+    expect_bytes("after the name", out + 55, zeros, 14);
+}
+
+/* ---- a leg's IK states after saving and joining: number, name and enabled of every one */
+
+static void legs_stay_off(void)
+{
+    struct take leg = leg_take(), other = distinct_take(3, 2, 1, 1, 1, 1, 4), both;
+    struct bytes l, o, out;
+    uint64_t len = 0;
+    encode(&l, &leg, RAW);
+    encode(&o, &other, RAW);
+    trial("a leg that goes off, exported");
+    expect_number("export", vmd_export_animation(l.at, l.len, out.at, sizeof out.at, &len), VMD_OK);
+    out.len = len;
+    field_by_field(&leg, out.at, out.len);
+    expect_number("IK states told in the test", states_of(&leg), 6);
+    trial("a leg that goes off, joined with another take");
+    join(&l, &o, &out);
+    both = joined(&leg, &other);
+    field_by_field(&both, out.at, out.len);
+    trial("another take, joined with a leg that goes off");
+    join(&o, &l, &out);
+    both = joined(&other, &leg);
+    field_by_field(&both, out.at, out.len);
+}
+
+/* ---- the joined model name */
+
+static void joined_models(void)
+{
+    static const struct {
+        const char *first, *second;
+        uint64_t part[3];
+    } rows[] = {
+        {"one", "two", {0, 30, 3}}, {"one", "", {0, 30, 3}}, {"", "second", {1, 30, 6}}, {"", "", {0, 0, 0}},
+        {"12345678901234567890", "x", {0, 30, 20}}, {"", "12345678901234567890", {1, 30, 20}},
+    };
+    size_t k;
+    for (k = 0; k < sizeof rows / sizeof *rows; k++) {
+        struct take t = distinct_take(0, 1, 0, 0, 0, 0, 0), u = distinct_take(0, 0, 1, 0, 0, 0, 0);
+        struct bytes first, second, out;
+        uint8_t *f, *s;
+        t.model = named(rows[k].first);
+        u.model = named(rows[k].second);
+        encode(&first, &t, RAW);
+        encode(&second, &u, RAW);
+        f = lend(&lent_first, first.at, first.len);
+        s = lend(&lent_second, second.at, second.len);
+        trial("model names '%s' and '%s'", rows[k].first, rows[k].second);
+        vmd_joined_model(f, first.len, s, second.len, lend_unwritten(&lent_slot, 24));
+        expect_lent("joined_model", &lent_slot, rows[k].part, sizeof rows[k].part);
+        expect_lent("first file", &lent_first, first.at, first.len);
+        expect_lent("second file", &lent_second, second.at, second.len);
+        join(&first, &second, &out);
+        t.model = named(rows[k].first[0] != '\0' ? rows[k].first : rows[k].second);
+        expect_bytes("model name in the join", out.at + 30, t.model.at, 20);
+    }
+    trial("model names of files whose header is refused");
+    {
+        uint64_t part[3] = {7, 7, 7};
+        static const uint8_t good[50] = "Vocaloid Motion Data 0002\0\0\0\0\0name", bad[50] = "Vocaloid Motion Data 0003\0\0\0\0\0name";
+        vmd_joined_model(bad, 50, good, 50, part);
+        expect_number("which", part[0], 1);
+        expect_number("place", part[1], 30);
+        expect_number("length", part[2], 4);
+        vmd_joined_model(good, 49, bad, 50, part);
+        expect_number("none", part[0] + part[1] + part[2], 0);
+        vmd_joined_model(NULL, 0, NULL, 0, part);
+        expect_number("none", part[0] + part[1] + part[2], 0);
+    }
+}
+
+/* ---- refusals: the first file's before the second's, both before 13 */
+
+static void refusals(void)
+{
+    struct take t = distinct_take(5, 2, 1, 1, 1, 1, 3);
+    struct bytes files[3], expected; /* files[n] is refused with n */
+    struct take both = joined(&t, &t);
+    uint32_t f, s;
+    encode(&files[0], &t, RAW);
+    files[1] = files[2] = files[0];
+    files[1].len -= 1;
+    files[2].at[0] = 'v';
+    encode(&expected, &both, CANONICAL);
+    for (f = 0; f < 3; f++) {
+        if (f > 0) {
+            trial("export of a file that is refused with %u", f);
+            size_of_export(&files[f], f, 0);
+            export_into(&files[f], f, NULL, 4096);
+            export_into(&files[f], f, NULL, 0);
+        }
+        for (s = 0; s < 3; s++) {
+            uint32_t number = f != 0 ? f : s;
+            trial("join of files that are refused with %u and %u", f, s);
+            size_of_join(&files[f], &files[s], number, expected.len);
+            join_into(&files[f], &files[s], number, &expected, 4096);
+            join_into(&files[f], &files[s], number != 0 ? number : VMD_OUTPUT_TOO_SHORT, NULL, 0);
+        }
+    }
+    trial("no bytes at all");
+    files[1].len = 0;
+    size_of_export(&files[1], VMD_ENDS_EARLY, 0);
+    export_into(&files[1], VMD_ENDS_EARLY, NULL, 100);
+    join_into(&files[1], &files[2], VMD_ENDS_EARLY, NULL, 100);
+    join_into(&files[2], &files[1], VMD_MAGIC_DIFFERS, NULL, 100);
+}
+
+/* A file cut anywhere is exported as what it means, or refused. */
+static void cut_anywhere(void)
+{
+    struct take t = distinct_take(9, 2, 2, 2, 2, 2, 3), u = distinct_take(0, 1, 0, 0, 0, 0, 2);
+    struct bytes b, other, expected;
+    struct opening o;
+    size_t n, s;
+    encode(&b, &t, RAW);
+    encode(&other, &u, RAW);
+    for (n = b.len; n-- > 0;) {
+        struct take cut = t, both;
+        uint32_t number;
+        b.len = n;
+        number = expected_opening(b.at, n, &o);
+        for (s = 0; s < SECTIONS; s++)
+            cut.counts[s] = o.counts[s];
+        trial("a file cut after %zu bytes", n);
+        if (number != VMD_OK) {
+            size_of_export(&b, number, 0);
+            export_into(&b, number, NULL, 4096);
+            join_into(&b, &other, number, NULL, 4096);
+            join_into(&other, &b, number, NULL, 4096);
+            continue;
+        }
+        encode(&expected, &cut, CANONICAL);
+        try_export(&b, &expected);
+        both = joined(&cut, &u);
+        encode(&expected, &both, CANONICAL);
+        try_join(&b, &other, &expected);
+        both = joined(&u, &cut);
+        encode(&expected, &both, CANONICAL);
+        try_join(&other, &b, &expected);
+    }
+}
+
+int main(void)
+{
+    make_samples();
+    exports();
+    odd_floats_anywhere();
+    joins();
+    empty_takes_on_either_side();
+    three_joined();
+    many_records();
+    one_bone_each();
+    bare_take();
+    written_forms();
+    legs_stay_off();
+    joined_models();
+    refusals();
+    cut_anywhere();
+    return finished("export_join");
+}

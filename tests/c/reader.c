@@ -1,0 +1,604 @@
+/* Opening, records by number, names and interpolation bytes, through the C interface. */
+#include "check.h"
+#include "expect.h"
+#include "readback.h"
+#include "vmd.h"
+
+#include <math.h>
+
+static struct fence lent_file, lent_scratch, lent_counts, lent_places, lent_totals, lent_slot, lent_values;
+
+/* ---- opening */
+
+/* One opening with a scratch of this length: the answer, every slot and every scratch place. */
+static void open_with(const uint8_t *file, size_t len, size_t scratch_len, uint32_t number, const struct opening *o)
+{
+    uint8_t *f = lend(&lent_file, file, len);
+    uint64_t *scratch = lend_unwritten(&lent_scratch, scratch_len * sizeof *scratch);
+    uint32_t *counts = lend_unwritten(&lent_counts, sizeof o->counts);
+    uint64_t *places = lend_unwritten(&lent_places, sizeof o->places);
+    uint64_t *totals = lend_unwritten(&lent_totals, sizeof o->totals);
+
+    expect_number("parse_animation", vmd_parse_animation(f, len, scratch, scratch_len, counts, places, totals), number);
+    expect_lent("file", &lent_file, file, len);
+    if (number != VMD_OK) {
+        expect_lent_unwritten("counts", &lent_counts);
+        expect_lent_unwritten("places", &lent_places);
+        expect_lent_unwritten("totals", &lent_totals);
+        expect_lent_unwritten("scratch", &lent_scratch);
+        return;
+    }
+    expect_lent("counts", &lent_counts, o->counts, sizeof o->counts);
+    expect_lent("places", &lent_places, o->places, sizeof o->places);
+    expect_lent("totals", &lent_totals, o->totals, sizeof o->totals);
+    expect_unwritten("before the scratch", lent_scratch.at - 64, 64);
+    if (o->n_frames > 0)
+        expect_bytes("scratch", scratch, o->frames, o->n_frames * sizeof *scratch);
+    if (scratch_len > o->n_frames)
+        expect_unwritten("further scratch places", scratch + o->n_frames, (scratch_len - o->n_frames) * sizeof *scratch);
+}
+
+/* Opens a file with scratch for just its frames, with more, with none and with one place less. */
+static uint32_t try_opening(const uint8_t *file, size_t len, struct opening *o)
+{
+    uint32_t number = expected_opening(file, len, o);
+    open_with(file, len, o->n_frames, number, o);
+    open_with(file, len, o->n_frames + 5, number, o);
+    if (number == VMD_OK && o->n_frames > 0) {
+        open_with(file, len, 0, VMD_SCRATCH_TOO_SHORT, o);
+        open_with(file, len, o->n_frames - 1, VMD_SCRATCH_TOO_SHORT, o);
+    }
+    return number;
+}
+
+/* ---- fetching: every call with one number, against the record that the layout has at the place */
+
+/* The slot of a call that fetches: what it must have after the answer. */
+static void expect_fetched(const char *what, uint32_t got, const uint8_t *record, const void *expected, size_t n)
+{
+    expect_number(what, got, record == NULL ? VMD_OUTSIDE : VMD_OK);
+    if (record == NULL)
+        expect_lent_unwritten(what, &lent_slot);
+    else
+        expect_lent(what, &lent_slot, expected, n);
+}
+
+static void expect_part_slot(const char *what, const uint64_t expected[2])
+{
+    expect_lent(what, &lent_slot, expected, 2 * sizeof *expected);
+}
+
+#define VIEW(v) (v)->file, (v)->len, (v)->counts, (v)->places
+#define SCRATCH(v) (v)->scratch, (v)->scratch_len
+
+static void fetch_bone(const struct view *v, size_t i)
+{
+    const uint8_t *r = expected_record(v, VMD_BONES, i);
+    uint32_t record[8] = {0};
+    uint64_t part[2];
+    size_t k;
+    for (k = 0; r != NULL && k < 8; k++)
+        record[k] = u32_at(r + 15 + 4 * k);
+    expect_fetched("bone_frame", vmd_bone_frame(VIEW(v), i, lend_unwritten(&lent_slot, sizeof record)), r, record,
+                   sizeof record);
+    expected_name(v, r, 15, part);
+    vmd_bone_name(VIEW(v), i, lend_unwritten(&lent_slot, sizeof part));
+    expect_part_slot("bone_name", part);
+    expected_part(v, r == NULL ? NULL : r + 47, 64, part);
+    vmd_bone_interpolation(VIEW(v), i, lend_unwritten(&lent_slot, sizeof part));
+    expect_part_slot("bone_interpolation", part);
+}
+
+static void fetch_morph(const struct view *v, size_t i)
+{
+    const uint8_t *r = expected_record(v, VMD_MORPHS, i);
+    uint32_t record[2] = {0};
+    uint64_t part[2];
+    if (r != NULL) {
+        record[0] = u32_at(r + 15);
+        record[1] = u32_at(r + 19);
+    }
+    expect_fetched("morph_frame", vmd_morph_frame(VIEW(v), i, lend_unwritten(&lent_slot, sizeof record)), r, record,
+                   sizeof record);
+    expected_name(v, r, 15, part);
+    vmd_morph_name(VIEW(v), i, lend_unwritten(&lent_slot, sizeof part));
+    expect_part_slot("morph_name", part);
+}
+
+static void fetch_camera(const struct view *v, size_t i)
+{
+    const uint8_t *r = expected_record(v, VMD_CAMERAS, i);
+    uint32_t record[10] = {0};
+    uint64_t part[2];
+    size_t k;
+    for (k = 0; r != NULL && k < 8; k++)
+        record[k] = u32_at(r + 4 * k);
+    if (r != NULL) {
+        record[8] = u32_at(r + 56);
+        record[9] = r[60] == 0;
+    }
+    expect_fetched("camera_frame", vmd_camera_frame(VIEW(v), i, lend_unwritten(&lent_slot, sizeof record)), r, record,
+                   sizeof record);
+    expected_part(v, r == NULL ? NULL : r + 32, 24, part);
+    vmd_camera_interpolation(VIEW(v), i, lend_unwritten(&lent_slot, sizeof part));
+    expect_part_slot("camera_interpolation", part);
+}
+
+static void fetch_light(const struct view *v, size_t i)
+{
+    const uint8_t *r = expected_record(v, VMD_LIGHTS, i);
+    uint32_t record[7] = {0}, number;
+    float *values = lend_unwritten(&lent_values, 6 * sizeof *values);
+    size_t k;
+    for (k = 0; r != NULL && k < 7; k++)
+        record[k] = u32_at(r + 4 * k);
+    expect_fetched("light_frame_bits", vmd_light_frame_bits(VIEW(v), i, lend_unwritten(&lent_slot, sizeof record)), r, record,
+                   sizeof record);
+
+    number = vmd_light_frame(VIEW(v), i, lend_unwritten(&lent_slot, 4), values);
+    expect_fetched("light_frame", number, r, record, 4);
+    if (r == NULL) {
+        expect_lent_unwritten("light_frame", &lent_values);
+        return;
+    }
+    expect_unwritten("before the light's values", lent_values.at - 64, 64);
+    for (k = 0; k < 6; k++) {
+        float value;
+        memcpy(&value, &record[1 + k], sizeof value);
+        if (isnan(value))
+            expect(isnan(values[k]), "light_frame: value %zu: expected a NaN", k);
+        else
+            expect_bytes("light_frame", &values[k], &value, sizeof value);
+    }
+}
+
+static void fetch_self_shadow(const struct view *v, size_t i)
+{
+    const uint8_t *r = expected_record(v, VMD_SELF_SHADOWS, i);
+    uint32_t record[3] = {0};
+    if (r != NULL) {
+        record[0] = u32_at(r);
+        record[1] = r[4];
+        record[2] = u32_at(r + 5);
+    }
+    expect_fetched("self_shadow_frame", vmd_self_shadow_frame(VIEW(v), i, lend_unwritten(&lent_slot, sizeof record)), r,
+                   record, sizeof record);
+}
+
+static void fetch_property(const struct view *v, size_t i)
+{
+    const uint8_t *r = expected_property(v, i);
+    uint32_t record[3] = {0};
+    if (r != NULL) {
+        record[0] = u32_at(r);
+        record[1] = r[4] != 0;
+        record[2] = u32_at(r + 5);
+    }
+    expect_fetched("property_frame", vmd_property_frame(VIEW(v), SCRATCH(v), i, lend_unwritten(&lent_slot, sizeof record)), r,
+                   record, sizeof record);
+}
+
+static void fetch_state(const struct view *v, size_t i, size_t j)
+{
+    const uint8_t *r = expected_state(v, i, j);
+    uint32_t enabled = r != NULL && r[20] != 0;
+    uint64_t part[2];
+    expect_fetched("ik_state", vmd_ik_state(VIEW(v), SCRATCH(v), i, j, lend_unwritten(&lent_slot, sizeof enabled)), r,
+                   &enabled, sizeof enabled);
+    expected_name(v, r, 20, part);
+    vmd_ik_name(VIEW(v), SCRATCH(v), i, j, lend_unwritten(&lent_slot, sizeof part));
+    expect_part_slot("ik_name", part);
+}
+
+/* Numbers far above every count; the products with a record's size wrap, and low halves are numbers of records. */
+static const size_t far_numbers[] = {
+    100, 0xFFFFFFFF, 0x100000000, 0x100000001, SIZE_MAX / 111 + 1, SIZE_MAX / 23 + 1, SIZE_MAX / 21 + 1, SIZE_MAX / 9 + 1,
+    0x8000000000000000, SIZE_MAX - 1, SIZE_MAX
+};
+enum { NEAR = 8, NUMBERS = NEAR + sizeof far_numbers / sizeof *far_numbers };
+
+static size_t number_to_try(size_t k)
+{
+    return k < NEAR ? k : far_numbers[k - NEAR];
+}
+
+/* Every fetch with any opening and scratch; nothing that is only read changes. */
+static void try_fetches(const uint8_t *file, size_t len, const uint32_t counts[6], const uint64_t places[6],
+                        const uint64_t *scratch, size_t scratch_len)
+{
+    struct view v;
+    size_t k, l;
+    v.file = lend(&lent_file, file, len);
+    v.len = len;
+    v.counts = lend(&lent_counts, counts, 6 * sizeof *counts);
+    v.places = lend(&lent_places, places, 6 * sizeof *places);
+    v.scratch = lend(&lent_scratch, scratch, scratch_len * sizeof *scratch);
+    v.scratch_len = scratch_len;
+    for (k = 0; k < NUMBERS; k++) {
+        size_t i = number_to_try(k);
+        fetch_bone(&v, i);
+        fetch_morph(&v, i);
+        fetch_camera(&v, i);
+        fetch_light(&v, i);
+        fetch_self_shadow(&v, i);
+        fetch_property(&v, i);
+        for (l = 0; l < NUMBERS; l++)
+            fetch_state(&v, i, number_to_try(l));
+    }
+    expect_lent("file", &lent_file, file, len);
+    expect_lent("counts", &lent_counts, counts, 6 * sizeof *counts);
+    expect_lent("places", &lent_places, places, 6 * sizeof *places);
+    expect_lent("scratch", &lent_scratch, scratch, scratch_len * sizeof *scratch);
+}
+
+static void try_model_name(const uint8_t *file, size_t len)
+{
+    struct view v = {NULL, 0, NULL, NULL, NULL, 0};
+    uint64_t part[2];
+    int header = len >= 50 && memcmp(file, "Vocaloid Motion Data 0002", 26) == 0;
+    v.file = lend(&lent_file, file, len);
+    v.len = len;
+    expected_name(&v, header ? v.file + 30 : NULL, 20, part);
+    vmd_model_name(v.file, len, lend_unwritten(&lent_slot, sizeof part));
+    expect_part_slot("model_name", part);
+    expect_lent("file", &lent_file, file, len);
+}
+
+/* A file through all of the reader's calls. */
+static uint32_t try_file(const uint8_t *file, size_t len)
+{
+    struct opening o;
+    uint32_t number = try_opening(file, len, &o);
+    try_model_name(file, len);
+    if (number == VMD_OK)
+        try_fetches(file, len, o.counts, o.places, o.frames, o.n_frames);
+    return number;
+}
+
+/* ---- takes of the paper, with what it says of each */
+
+enum { PLAIN, FIRST_BYTES, FIRST_BYTES_A };
+
+static const struct {
+    const char *name;
+    int kind;
+    size_t len; /* of FIRST_BYTES: of the magic and the zeros after it; of FIRST_BYTES_A: of bytes 0x41 */
+    int n_counts;
+    uint32_t counts[6];
+    int over; /* bytes after the counts */
+    uint32_t number;
+} paper_takes[] = {
+    {"no bytes", FIRST_BYTES, 0, 0, {0}, 0, 1},
+    {"29 bytes", FIRST_BYTES, 29, 0, {0}, 0, 1},
+    {"29 bytes of 0x41", FIRST_BYTES_A, 29, 0, {0}, 0, 1},
+    {"30 bytes of 0x41", FIRST_BYTES_A, 30, 0, {0}, 0, 2},
+    {"49 bytes of 0x41", FIRST_BYTES_A, 49, 0, {0}, 0, 2},
+    {"80 bytes of 0x41", FIRST_BYTES_A, 80, 0, {0}, 0, 2},
+    {"30 bytes with the magic", FIRST_BYTES, 30, 0, {0}, 0, 1},
+    {"49 bytes with the magic", FIRST_BYTES, 49, 0, {0}, 0, 1},
+    {"start", PLAIN, 50, 0, {0}, 0, 1},
+    {"start and three bytes", PLAIN, 50, 0, {0}, 3, 1},
+    {"start,0", PLAIN, 50, 1, {0}, 0, 0},
+    {"start,0 and one byte", PLAIN, 50, 1, {0}, 1, 1},
+    {"start,0 and three bytes", PLAIN, 50, 1, {0}, 3, 1},
+    {"start,1", PLAIN, 50, 1, {1}, 0, 1},
+    {"start,1 and 110 bytes", PLAIN, 50, 1, {1}, 110, 1},
+    {"start,1 and 111 bytes", PLAIN, 50, 1, {1}, 111, 0},
+    {"start,0,1", PLAIN, 50, 2, {0, 1}, 0, 1},
+    {"start,0,1 and 22 bytes", PLAIN, 50, 2, {0, 1}, 22, 1},
+    {"start,0,1 and 23 bytes", PLAIN, 50, 2, {0, 1}, 23, 0},
+    {"start,0,0,1", PLAIN, 50, 3, {0, 0, 1}, 0, 0},
+    {"start,0,0,1 and 60 bytes", PLAIN, 50, 3, {0, 0, 1}, 60, 0},
+    {"start,0,0,1 and 61 bytes", PLAIN, 50, 3, {0, 0, 1}, 61, 0},
+    {"start,0,0,0,1", PLAIN, 50, 4, {0, 0, 0, 1}, 0, 0},
+    {"start,0,0,0,1 and 27 bytes", PLAIN, 50, 4, {0, 0, 0, 1}, 27, 0},
+    {"start,0,0,0,0,1", PLAIN, 50, 5, {0, 0, 0, 0, 1}, 0, 0},
+    {"start,0,0,0,0,1 and 8 bytes", PLAIN, 50, 5, {0, 0, 0, 0, 1}, 8, 0},
+    {"start,0,0,0,0,0,1", PLAIN, 50, 6, {0, 0, 0, 0, 0, 1}, 0, 1},
+    {"start,0,0,0,0,0,1 and 8 bytes", PLAIN, 50, 6, {0, 0, 0, 0, 0, 1}, 8, 1},
+    {"start,0,0,0,0,0,1 and 9 bytes", PLAIN, 50, 6, {0, 0, 0, 0, 0, 1}, 9, 0},
+    {"start,0,0,0,0,0,0 and 7 bytes", PLAIN, 50, 6, {0}, 7, 0},
+    {"largest bone count", PLAIN, 50, 1, {0xFFFFFFFF}, 111, 1},
+    {"largest morph count", PLAIN, 50, 2, {0, 0xFFFFFFFF}, 23, 1},
+    {"largest camera count", PLAIN, 50, 3, {0, 0, 0xFFFFFFFF}, 200, 0},
+    {"largest light count", PLAIN, 50, 4, {0, 0, 0, 0xFFFFFFFF}, 200, 0},
+    {"largest self-shadow count", PLAIN, 50, 5, {0, 0, 0, 0, 0xFFFFFFFF}, 200, 0},
+    {"largest property count", PLAIN, 50, 6, {0, 0, 0, 0, 0, 0xFFFFFFFF}, 200, 1},
+};
+
+static void takes_of_the_paper(void)
+{
+    size_t k;
+    for (k = 0; k < sizeof paper_takes / sizeof *paper_takes; k++) {
+        struct name none = named("");
+        struct bytes b;
+        int i;
+        b.len = 0;
+        put_header(&b, &none, CANONICAL);
+        if (paper_takes[k].kind == FIRST_BYTES_A)
+            memset(b.at, 0x41, 80);
+        b.len = paper_takes[k].len;
+        for (i = 0; i < paper_takes[k].n_counts; i++)
+            put_u32(&b, paper_takes[k].counts[i]);
+        for (i = 0; i < paper_takes[k].over; i++)
+            put_byte(&b, 0);
+        trial("takes of the paper: %s", paper_takes[k].name);
+        expect_number("refusal", try_file(b.at, b.len), paper_takes[k].number);
+    }
+}
+
+/* Where the places are told in words: after the count, or the file's length. */
+static void places_of_empty_sections(void)
+{
+    static const uint32_t oversized[3] = {0, 0, 1};
+    struct name none = named("");
+    struct bytes b;
+    uint32_t counts[6];
+    uint64_t places[6], totals[2];
+    size_t s;
+    b.len = 0;
+    put_header(&b, &none, CANONICAL);
+    put_u32s(&b, oversized, 3);
+    put(&b, b.at, 40);
+    trial("places of empty sections");
+    expect_number("parse_animation", vmd_parse_animation(b.at, b.len, NULL, 0, counts, places, totals), VMD_OK);
+    for (s = 0; s < SECTIONS; s++) {
+        expect_number("count", counts[s], 0);
+        expect_number("place", places[s], s == 0 ? 54 : s == 1 ? 58 : 102);
+    }
+    expect_number("IK states", totals[0], 0);
+    expect_number("largest frame", totals[1], 0);
+}
+
+/* ---- takes field by field */
+
+static void six_sections(void)
+{
+    struct take t = distinct_take(20, 5, 4, 6, 3, 4, 6);
+    struct take leg = leg_take();
+    struct bytes b;
+    trial("six sections, field by field");
+    encode(&b, &t, RAW);
+    field_by_field(&t, b.at, b.len);
+    try_file(b.at, b.len);
+    trial("a leg that goes off, field by field");
+    encode(&b, &leg, CANONICAL);
+    field_by_field(&leg, b.at, b.len);
+    try_file(b.at, b.len);
+}
+
+/* Each flag's byte on its own: on and off as told in words. */
+static void flags(void)
+{
+    static const struct {
+        uint8_t byte;
+        uint32_t perspective, flag;
+    } rows[] = {{0, 1, 0}, {1, 0, 1}, {2, 0, 1}, {128, 0, 1}, {255, 0, 1}};
+    size_t k;
+    for (k = 0; k < sizeof rows / sizeof *rows; k++) {
+        struct take t = distinct_take(3, 0, 0, 1, 0, 0, 2);
+        struct bytes b;
+        uint32_t counts[6], record[10], enabled = 7;
+        uint64_t places[6], totals[2], scratch[2];
+        trial("flag byte %u", rows[k].byte);
+        t.cameras[0].perspective = rows[k].byte;
+        t.properties[1].visible = rows[k].byte;
+        t.properties[1].states[0].enabled = rows[k].byte;
+        encode(&b, &t, RAW);
+        vmd_parse_animation(b.at, b.len, scratch, 2, counts, places, totals);
+        vmd_camera_frame(b.at, b.len, counts, places, 0, record);
+        expect_number("perspective", record[9], rows[k].perspective);
+        vmd_property_frame(b.at, b.len, counts, places, scratch, 2, 1, record);
+        expect_number("visible", record[1], rows[k].flag);
+        vmd_ik_state(b.at, b.len, counts, places, scratch, 2, 1, 0, &enabled);
+        expect_number("enabled", enabled, rows[k].flag);
+    }
+}
+
+/* The largest frame may stand in any section, at its beginning or end. */
+static void largest_frame(void)
+{
+    int section, last;
+    for (section = 0; section < SECTIONS; section++)
+        for (last = 0; last < 2; last++) {
+            struct take t = distinct_take(4, 2, 2, 2, 2, 2, 2);
+            struct bytes b;
+            uint32_t counts[6], *frames[SECTIONS];
+            uint64_t places[6], totals[2], scratch[2];
+            size_t i, s;
+            for (i = 0; i < 2; i++) {
+                frames[0] = &t.bones[i].frame;
+                frames[1] = &t.morphs[i].frame;
+                frames[2] = &t.cameras[i].frame;
+                frames[3] = &t.lights[i].frame;
+                frames[4] = &t.self_shadows[i].frame;
+                frames[5] = &t.properties[i].frame;
+                for (s = 0; s < SECTIONS; s++)
+                    *frames[s] = (int)s == section && (int)i == last ? 0x80000000 : (uint32_t)(10 * s + i);
+            }
+            encode(&b, &t, RAW);
+            trial("largest frame in record %d of section %d", last, section);
+            expect_number("parse_animation", vmd_parse_animation(b.at, b.len, scratch, 2, counts, places, totals), VMD_OK);
+            expect_number("largest frame", totals[1], 0x80000000);
+        }
+}
+
+/* ---- files that are damaged in every place */
+
+static void cut_anywhere(void)
+{
+    struct take t = distinct_take(7, 2, 3, 2, 2, 3, 4);
+    struct bytes b;
+    size_t n;
+    encode(&b, &t, RAW);
+    for (n = 0; n <= b.len; n++) {
+        trial("six sections cut after %zu bytes", n);
+        try_file(b.at, n);
+    }
+    put(&b, b.at, 30);
+    trial("six sections with 30 bytes over");
+    expect_number("refusal", try_file(b.at, b.len), VMD_OK);
+}
+
+static void any_byte_changed(void)
+{
+    static const uint8_t values[] = {0, 1, 2, 0x7F, 0x80, 0xFF};
+    struct take t = distinct_take(7, 2, 3, 2, 2, 3, 4);
+    struct bytes b;
+    struct opening o;
+    size_t n, k;
+    encode(&b, &t, RAW);
+    for (n = 0; n < b.len; n++)
+        for (k = 0; k < sizeof values; k++) {
+            uint8_t kept = b.at[n];
+            uint32_t number;
+            b.at[n] = values[k];
+            trial("six sections with byte %zu made %u", n, values[k]);
+            number = try_opening(b.at, b.len, &o);
+            try_model_name(b.at, b.len);
+            if (n < 26 && values[k] != kept)
+                expect_number("refusal", number, VMD_MAGIC_DIFFERS);
+            if (n >= 26 && n < 50)
+                expect_number("refusal", number, VMD_OK);
+            b.at[n] = kept;
+        }
+}
+
+/* ---- openings and scratch of another file */
+
+static void openings_of_another_file(void)
+{
+    struct take longer = distinct_take(5, 4, 4, 4, 4, 4, 5), shorter = distinct_take(5, 1, 2, 1, 1, 2, 2);
+    struct bytes l, s;
+    struct opening of_longer, of_shorter;
+    size_t n;
+    encode(&l, &longer, RAW);
+    encode(&s, &shorter, RAW);
+    expected_opening(l.at, l.len, &of_longer);
+    expected_opening(s.at, s.len, &of_shorter);
+    trial("a longer file with a shorter one's opening");
+    try_fetches(l.at, l.len, of_shorter.counts, of_shorter.places, of_shorter.frames, of_shorter.n_frames);
+    trial("a shorter file with a longer one's opening");
+    try_fetches(s.at, s.len, of_longer.counts, of_longer.places, of_longer.frames, of_longer.n_frames);
+    trial("a file with its opening and another one's scratch");
+    try_fetches(l.at, l.len, of_longer.counts, of_longer.places, of_shorter.frames, of_shorter.n_frames);
+    trial("a file with its scratch and the opening of one with fewer property frames");
+    try_fetches(l.at, l.len, of_shorter.counts, of_shorter.places, of_longer.frames, of_longer.n_frames);
+    for (n = 0; n <= of_longer.n_frames; n++) {
+        trial("a scratch of %zu places for %zu property frames", n, of_longer.n_frames);
+        try_fetches(l.at, l.len, of_longer.counts, of_longer.places, of_longer.frames, n);
+    }
+    for (n = 0; n < l.len; n++) {
+        trial("the first %zu bytes of a file with its opening", n);
+        try_fetches(l.at, n, of_longer.counts, of_longer.places, of_longer.frames, of_longer.n_frames);
+    }
+}
+
+/* Places anywhere: at the ends of the file, and where the sum with a record's distance would wrap into the file. */
+static void places_anywhere(void)
+{
+    struct take t = distinct_take(5, 3, 3, 3, 3, 3, 4);
+    struct bytes b;
+    struct opening o;
+    uint64_t near_end[40];
+    size_t n = 0, k, s;
+    encode(&b, &t, RAW);
+    expected_opening(b.at, b.len, &o);
+    near_end[n++] = 0;
+    near_end[n++] = b.len;
+    near_end[n++] = b.len + 1;
+    near_end[n++] = b.len - 8;
+    near_end[n++] = b.len - 9;
+    near_end[n++] = b.len - 28;
+    near_end[n++] = b.len - 111;
+    near_end[n++] = UINT64_MAX;
+    near_end[n++] = UINT64_MAX - 110;
+    near_end[n++] = 0x8000000000000000;
+    near_end[n++] = 0x100000000 + o.places[0];
+    for (s = 0; s < SECTIONS; s++) {
+        near_end[n++] = 0 - (uint64_t)record_sizes[s];         /* record 0 ends where the sum wraps to 0 */
+        near_end[n++] = o.places[s] - 2 * record_sizes[s];     /* a place inside, before the section */
+        near_end[n++] = 50 - (uint64_t)record_sizes[s];        /* wraps for some: record 1 would lie at 50 */
+        near_end[n++] = 60 - 3 * (uint64_t)record_sizes[s];
+    }
+    for (k = 0; k < n; k++) {
+        struct opening moved = o;
+        for (s = 0; s < SECTIONS; s++) {
+            moved.places[s] = near_end[k];
+            moved.counts[s] = 0xFFFFFFFF;
+        }
+        for (s = 0; s < o.n_frames; s++)
+            moved.frames[s] = near_end[(k + s) % n];
+        trial("all places %llu, all counts 4,294,967,295", (unsigned long long)near_end[k]);
+        try_fetches(b.at, b.len, moved.counts, moved.places, moved.frames, moved.n_frames);
+    }
+}
+
+/* More records of each kind than one byte can count: every one is fetched. */
+static void many_records(void)
+{
+    struct take t = distinct_take(11, 5, 6, 5, 6, 7, 8);
+    static struct bytes b;
+    struct opening o;
+    struct view v;
+    size_t i, j;
+    encode_times(&b, &t, 60, RAW);
+    trial("60 times the records of a take");
+    expect_number("refusal", try_opening(b.at, b.len, &o), VMD_OK);
+    expect_number("bones", o.counts[0], 300);
+    v.file = lend(&lent_file, b.at, b.len);
+    v.len = b.len;
+    v.counts = o.counts;
+    v.places = o.places;
+    v.scratch = o.frames;
+    v.scratch_len = o.n_frames;
+    for (i = 0; i <= 480; i++) {
+        fetch_bone(&v, i);
+        fetch_morph(&v, i);
+        fetch_camera(&v, i);
+        fetch_light(&v, i);
+        fetch_self_shadow(&v, i);
+        fetch_property(&v, i);
+        for (j = 0; j < 5; j++)
+            fetch_state(&v, i, j);
+    }
+    expect_lent("file", &lent_file, b.at, b.len);
+}
+
+/* A slice of no elements is not looked at: its pointer may be null, or lead where nothing can be read. */
+static void slices_of_no_elements(void)
+{
+    struct take t = distinct_take(4, 1, 1, 1, 1, 1, 0);
+    struct bytes b;
+    uint32_t counts[6], record[8] = {1, 2, 3};
+    uint64_t places[6], totals[2], part[2] = {7, 7};
+    uint8_t *closed = end_of(&lent_file);
+    trial("slices of no elements");
+    encode(&b, &t, RAW);
+    expect_number("parse_animation", vmd_parse_animation(b.at, b.len, (uint64_t *)(void *)closed, 0, counts, places, totals),
+                  VMD_OK);
+    expect_number("parse_animation", vmd_parse_animation(closed, 0, NULL, 0, counts, places, totals), VMD_ENDS_EARLY);
+    expect_number("parse_animation", vmd_parse_animation(NULL, 0, NULL, 0, counts, places, totals), VMD_ENDS_EARLY);
+    expect_number("bone_frame", vmd_bone_frame(closed, 0, counts, places, 0, record), VMD_OUTSIDE);
+    counts[5] = 1;
+    expect_number("property_frame", vmd_property_frame(b.at, b.len, counts, places, NULL, 0, 0, record), VMD_OUTSIDE);
+    expect_number("slot", record[0] * 100 + record[1] * 10 + record[2], 123);
+    vmd_model_name(closed, 0, part);
+    expect_number("model name", part[0] + part[1], 0);
+}
+
+int main(void)
+{
+    takes_of_the_paper();
+    places_of_empty_sections();
+    six_sections();
+    flags();
+    largest_frame();
+    cut_anywhere();
+    any_byte_changed();
+    openings_of_another_file();
+    places_anywhere();
+    many_records();
+    slices_of_no_elements();
+    return finished("reader");
+}

@@ -1,0 +1,403 @@
+/*
+ * Takes, and an encoder of them written from the layouts, so that expected bytes never come from the library.
+ *
+ * A struct take is what a file means; flags are the bytes that a file has. It is encoded in two manners: CANONICAL, as the
+ * library has to write it, and RAW, as other programs may: bytes after a name's zero, flags of any value, anything in bytes
+ * 26 to 29.
+ */
+#ifndef TAKE_H
+#define TAKE_H
+
+#include <stdint.h>
+#include <stdio.h>
+#include <stdlib.h>
+#include <string.h>
+
+/* ---- bytes */
+
+struct bytes {
+    size_t len;
+    uint8_t at[1 << 18];
+};
+
+static inline void put(struct bytes *b, const void *from, size_t n)
+{
+    if (n > sizeof b->at - b->len) {
+        fprintf(stderr, "the test's own file is too long\n");
+        exit(2);
+    }
+    if (n > 0)
+        memcpy(b->at + b->len, from, n);
+    b->len += n;
+}
+
+static inline void put_byte(struct bytes *b, unsigned value)
+{
+    uint8_t byte = (uint8_t)value;
+    put(b, &byte, 1);
+}
+
+static inline void put_u32(struct bytes *b, uint32_t value)
+{
+    put_byte(b, value & 255);
+    put_byte(b, value >> 8 & 255);
+    put_byte(b, value >> 16 & 255);
+    put_byte(b, value >> 24);
+}
+
+static inline void put_u32s(struct bytes *b, const uint32_t *values, size_t n)
+{
+    size_t i;
+    for (i = 0; i < n; i++)
+        put_u32(b, values[i]);
+}
+
+static inline uint32_t u32_at(const uint8_t *at)
+{
+    return at[0] | (uint32_t)at[1] << 8 | (uint32_t)at[2] << 16 | (uint32_t)at[3] << 24;
+}
+
+/* ---- takes */
+
+enum { SECTIONS = 6, MOST = 12, MOST_STATES = 4 };
+
+struct name {
+    uint8_t at[20];
+    size_t len;
+};
+
+struct bone {
+    struct name name;
+    uint32_t frame, floats[7];
+    uint8_t interpolation[64];
+};
+
+struct morph {
+    struct name name;
+    uint32_t frame, weight;
+};
+
+struct camera {
+    uint32_t frame, floats[7];
+    uint8_t interpolation[24];
+    uint32_t field_of_view;
+    uint8_t perspective;
+};
+
+struct light {
+    uint32_t frame, floats[6];
+};
+
+struct self_shadow {
+    uint32_t frame;
+    uint8_t mode;
+    uint32_t distance;
+};
+
+struct ik_state {
+    struct name name;
+    uint8_t enabled;
+};
+
+struct property {
+    uint32_t frame;
+    uint8_t visible;
+    size_t n_states;
+    struct ik_state states[MOST_STATES];
+};
+
+struct take {
+    struct name model;
+    size_t counts[SECTIONS];
+    struct bone bones[MOST];
+    struct morph morphs[MOST];
+    struct camera cameras[MOST];
+    struct light lights[MOST];
+    struct self_shadow self_shadows[MOST];
+    struct property properties[MOST];
+};
+
+static inline struct name named(const char *text)
+{
+    struct name n;
+    memset(&n, 0, sizeof n);
+    n.len = strlen(text);
+    memcpy(n.at, text, n.len);
+    return n;
+}
+
+static inline size_t states_of(const struct take *t)
+{
+    size_t i, n = 0;
+    for (i = 0; i < t->counts[5]; i++)
+        n += t->properties[i].n_states;
+    return n;
+}
+
+static inline size_t canonical_size(const struct take *t)
+{
+    return 74 + 111 * t->counts[0] + 23 * t->counts[1] + 61 * t->counts[2] + 28 * t->counts[3] + 9 * t->counts[4]
+        + 9 * t->counts[5] + 21 * states_of(t);
+}
+
+/* Every section: the first's records, then the second's. The model name: the first's where that is not empty. */
+static inline struct take joined(const struct take *first, const struct take *second)
+{
+    struct take t = *first;
+    size_t s;
+    if (first->model.len == 0)
+        t.model = second->model;
+    for (s = 0; s < SECTIONS; s++) {
+        t.counts[s] += second->counts[s];
+        if (t.counts[s] > MOST) {
+            fprintf(stderr, "the test's own take is too long\n");
+            exit(2);
+        }
+    }
+    memcpy(t.bones + first->counts[0], second->bones, second->counts[0] * sizeof *t.bones);
+    memcpy(t.morphs + first->counts[1], second->morphs, second->counts[1] * sizeof *t.morphs);
+    memcpy(t.cameras + first->counts[2], second->cameras, second->counts[2] * sizeof *t.cameras);
+    memcpy(t.lights + first->counts[3], second->lights, second->counts[3] * sizeof *t.lights);
+    memcpy(t.self_shadows + first->counts[4], second->self_shadows, second->counts[4] * sizeof *t.self_shadows);
+    memcpy(t.properties + first->counts[5], second->properties, second->counts[5] * sizeof *t.properties);
+    return t;
+}
+
+/* ---- the encoder */
+
+enum manner { CANONICAL, RAW };
+
+static inline void put_name(struct bytes *b, const struct name *n, size_t width, enum manner manner)
+{
+    size_t i;
+    put(b, n->at, n->len);
+    for (i = n->len; i < width; i++)
+        put_byte(b, manner == CANONICAL || i == n->len ? 0 : 0xF0 + (i & 15));
+}
+
+static inline void put_flag(struct bytes *b, unsigned value, enum manner manner)
+{
+    put_byte(b, manner == CANONICAL ? value != 0 : value);
+}
+
+/* The magic and the model name. */
+static inline void put_header(struct bytes *b, const struct name *model, enum manner manner)
+{
+    put(b, "Vocaloid Motion Data 0002", 26);
+    put_u32(b, manner == CANONICAL ? 0 : 0xEFBEADDE);
+    put_name(b, model, 20, manner);
+}
+
+static inline void put_bone(struct bytes *b, const struct bone *r, enum manner manner)
+{
+    put_name(b, &r->name, 15, manner);
+    put_u32(b, r->frame);
+    put_u32s(b, r->floats, 7);
+    put(b, r->interpolation, 64);
+}
+
+static inline void put_morph(struct bytes *b, const struct morph *r, enum manner manner)
+{
+    put_name(b, &r->name, 15, manner);
+    put_u32(b, r->frame);
+    put_u32(b, r->weight);
+}
+
+/* Perspective is on where the byte is 0: it is written as 0, and any other as 1. */
+static inline void put_camera(struct bytes *b, const struct camera *r, enum manner manner)
+{
+    put_u32(b, r->frame);
+    put_u32s(b, r->floats, 7);
+    put(b, r->interpolation, 24);
+    put_u32(b, r->field_of_view);
+    put_flag(b, r->perspective, manner);
+}
+
+static inline void put_light(struct bytes *b, const struct light *r)
+{
+    put_u32(b, r->frame);
+    put_u32s(b, r->floats, 6);
+}
+
+static inline void put_self_shadow(struct bytes *b, const struct self_shadow *r)
+{
+    put_u32(b, r->frame);
+    put_byte(b, r->mode);
+    put_u32(b, r->distance);
+}
+
+static inline void put_property(struct bytes *b, const struct property *r, enum manner manner)
+{
+    size_t j;
+    put_u32(b, r->frame);
+    put_flag(b, r->visible, manner);
+    put_u32(b, (uint32_t)r->n_states);
+    for (j = 0; j < r->n_states; j++) {
+        put_name(b, &r->states[j].name, 20, manner);
+        put_flag(b, r->states[j].enabled, manner);
+    }
+}
+
+static inline void put_records(struct bytes *b, const struct take *t, int section, enum manner manner)
+{
+    size_t i;
+    for (i = 0; i < t->counts[section]; i++)
+        switch (section) {
+        case 0: put_bone(b, &t->bones[i], manner); break;
+        case 1: put_morph(b, &t->morphs[i], manner); break;
+        case 2: put_camera(b, &t->cameras[i], manner); break;
+        case 3: put_light(b, &t->lights[i]); break;
+        case 4: put_self_shadow(b, &t->self_shadows[i]); break;
+        case 5: put_property(b, &t->properties[i], manner); break;
+        }
+}
+
+/* The file whose every section has the take's records so many times over. */
+static inline void encode_times(struct bytes *b, const struct take *t, size_t times, enum manner manner)
+{
+    size_t n;
+    int s;
+    b->len = 0;
+    put_header(b, &t->model, manner);
+    for (s = 0; s < SECTIONS; s++) {
+        put_u32(b, (uint32_t)(times * t->counts[s]));
+        for (n = 0; n < times; n++)
+            put_records(b, t, s, manner);
+    }
+}
+
+static inline void encode(struct bytes *b, const struct take *t, enum manner manner)
+{
+    encode_times(b, t, 1, manner);
+}
+
+/* ---- takes to try */
+
+/* A byte from 1 to 255, another one each time: among 255 of them no two are equal. */
+static inline unsigned next_byte(void)
+{
+    static unsigned n;
+    n = (n + 7) % 255;
+    return n + 1;
+}
+
+static inline uint32_t next_u32(void)
+{
+    uint32_t n = next_byte();
+    n = n << 8 | next_byte();
+    n = n << 8 | next_byte();
+    return n << 8 | next_byte();
+}
+
+static inline struct name next_name(size_t len)
+{
+    struct name n;
+    size_t i;
+    memset(&n, 0, sizeof n);
+    n.len = len;
+    for (i = 0; i < len; i++)
+        n.at[i] = (uint8_t)next_byte();
+    return n;
+}
+
+static inline void next_u32s(uint32_t *to, size_t n)
+{
+    size_t i;
+    for (i = 0; i < n; i++)
+        to[i] = next_u32();
+}
+
+static inline void next_bytes(uint8_t *to, size_t n)
+{
+    size_t i;
+    for (i = 0; i < n; i++)
+        to[i] = (uint8_t)next_byte();
+}
+
+/*
+ * So many records in each section, with distinct bytes everywhere in a record; name lengths go through all of their field's,
+ * the flags' bytes through 0, 1, 2, 128 and 255, and the IK states of property frame i are i % 4.
+ */
+static inline struct take distinct_take(size_t model_len, size_t bones, size_t morphs, size_t cameras, size_t lights,
+                                 size_t self_shadows, size_t properties)
+{
+    static const uint8_t flags[5] = {0, 1, 2, 128, 255};
+    static unsigned turn;
+    struct take t;
+    size_t i, j;
+    memset(&t, 0, sizeof t);
+    t.model = next_name(model_len);
+    t.counts[0] = bones;
+    t.counts[1] = morphs;
+    t.counts[2] = cameras;
+    t.counts[3] = lights;
+    t.counts[4] = self_shadows;
+    t.counts[5] = properties;
+    for (i = 0; i < bones; i++) {
+        t.bones[i].name = next_name(turn++ % 16);
+        t.bones[i].frame = next_u32();
+        next_u32s(t.bones[i].floats, 7);
+        next_bytes(t.bones[i].interpolation, 64);
+    }
+    for (i = 0; i < morphs; i++) {
+        t.morphs[i].name = next_name(turn++ % 16);
+        t.morphs[i].frame = next_u32();
+        t.morphs[i].weight = next_u32();
+    }
+    for (i = 0; i < cameras; i++) {
+        t.cameras[i].frame = next_u32();
+        next_u32s(t.cameras[i].floats, 7);
+        next_bytes(t.cameras[i].interpolation, 24);
+        t.cameras[i].field_of_view = next_u32();
+        t.cameras[i].perspective = flags[turn++ % 5];
+    }
+    for (i = 0; i < lights; i++) {
+        t.lights[i].frame = next_u32();
+        next_u32s(t.lights[i].floats, 6);
+    }
+    for (i = 0; i < self_shadows; i++) {
+        t.self_shadows[i].frame = next_u32();
+        t.self_shadows[i].mode = (uint8_t)next_byte();
+        t.self_shadows[i].distance = next_u32();
+    }
+    for (i = 0; i < properties; i++) {
+        t.properties[i].frame = next_u32();
+        t.properties[i].visible = flags[turn++ % 5];
+        t.properties[i].n_states = i % 4;
+        for (j = 0; j < t.properties[i].n_states; j++) {
+            t.properties[i].states[j].name = next_name(turn % 21);
+            t.properties[i].states[j].enabled = flags[turn++ % 5];
+        }
+    }
+    return t;
+}
+
+static inline struct take empty_take(void)
+{
+    return distinct_take(0, 0, 0, 0, 0, 0, 0);
+}
+
+/* A leg whose inverse kinematics goes off and on again: three property frames with different numbers of IK states. */
+static inline struct take leg_take(void)
+{
+    static const char *const names[3] = {"\x8D\xB6\x91\xAB\x82\x68\x82\x6A", "\x89\x45\x91\xAB\x82\x68\x82\x6A", "toe"};
+    static const uint32_t frames[3] = {0, 90, 120};
+    static const size_t states[3] = {2, 3, 1};
+    static const uint8_t enabled[3][3] = {{1, 1}, {0, 1, 0}, {1}};
+    struct take t = empty_take();
+    size_t i, j;
+    t.model = named("dancer");
+    t.counts[5] = 3;
+    for (i = 0; i < 3; i++) {
+        t.properties[i].frame = frames[i];
+        t.properties[i].visible = i != 1;
+        t.properties[i].n_states = states[i];
+        for (j = 0; j < states[i]; j++) {
+            t.properties[i].states[j].name = named(names[j]);
+            t.properties[i].states[j].enabled = enabled[i][j];
+        }
+    }
+    return t;
+}
+
+#endif
