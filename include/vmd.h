@@ -11,7 +11,8 @@
  * where the number is 0 the pointer is not used and may be null. Slots (counts, places, record, part, ..) are arrays of the
  * length written here, or single numbers, and never null.
  *
- * What a function writes must not overlap anything else that is lent to the same call.
+ * What a function writes must not overlap anything else that is lent to the same call; what it only reads may. A slice takes
+ * fewer than 2^63 bytes, as every object does.
  *
  * Floats are handed out as their 32 bits, so that every NaN keeps its payload; only vmd_light_frame and the builder's
  * columns have float values.
@@ -111,8 +112,8 @@ uint32_t vmd_ik_state(const uint8_t *file, size_t file_len, const uint32_t count
  * ---- names and interpolation bytes
  *
  * part receives where the bytes begin in the file, and how many there are; 0, 0 where there are none. A name ends before its
- * first zero byte. Where there is no such record, or the header of the file is refused, there are none. These calls do not
- * refuse.
+ * first zero byte. Where there is no such record, or the header of the file is refused, there are none. The part always lies
+ * in the file, whatever counts, places and scratch hold. These calls do not refuse.
  */
 
 void vmd_bone_name(const uint8_t *file, size_t file_len, const uint32_t counts[6], const uint64_t places[6], size_t i,

@@ -13,14 +13,18 @@ returns : tie.Need-returns
 returns c =
     let t = c .before .before in
     let a = t .before .before in
-    refused bone-fields (fetch-at bone (λ x. x .bones) _ _ (a .before .opening-of .ensures)) (a .bone-frame .ensures) (ap bone-answer (t .k .given .1)) _ _ (c .number .ensures)
+    refused bone-fields (fetch-at bone (λ x. x .bones) _ _ (a .before .opening-of .ensures))
+    (a .bone-frame .ensures) (ap bone-answer (t .k .given .1)) _ _
+    (c .number .ensures)
 
 returns-2 : tie.Need-returns-2
 unfolding bone-words bone-fields
 returns-2 c =
     let t = c .before .before in
     let a = t .before .before in
-    found bone-fields (fetch-at bone (λ x. x .bones) _ _ (a .before .opening-of .ensures)) (a .bone-frame .ensures) (ap bone-answer (t .x .given .1)) _ _ (λ v z. rw z)
+    found bone-fields (fetch-at bone (λ x. x .bones) _ _ (a .before .opening-of .ensures))
+    (a .bone-frame .ensures) (ap bone-answer (t .x .given .1)) _ _
+    (λ v z. rw z)
 
 pub vmd-bone-frame-spec : {M : Type 1} → statement M
 vmd-bone-frame-spec =

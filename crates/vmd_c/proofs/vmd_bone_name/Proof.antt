@@ -11,25 +11,29 @@ use Rattle.vmd_c.proofs.vmd_bone_name.Tie as tie
 returns : tie.Need-returns
 returns c =
     let n = c .before .before in
-    part-none _ (bytes-at bone (λ x. x .name) (λ x. x .bones) _ _ (n .before .opening-of .ensures) (n .bone-name .ensures)) (c .before .if1 .taken)
+    let e = bytes-at bone (λ x. x .name) (λ x. x .bones) _ _ (n .before .opening-of .ensures) (n .bone-name .ensures) in
+    part-none _ e (c .before .if1 .taken)
 
 mul-at : tie.Need-mul-at
 unfolding scan-at part-at
 mul-at c =
     let n = c .before .before in
-    omega (arith, part-fits _ (bytes-at bone (λ x. x .name) (λ x. x .bones) _ _ (n .before .opening-of .ensures) (n .bone-name .ensures)) _ (bone-name-part _ _ _) (omega arith))
+    let e = bytes-at bone (λ x. x .name) (λ x. x .bones) _ _ (n .before .opening-of .ensures) (n .bone-name .ensures) in
+    omega (arith, part-fits _ e _ (bone-name-part _ _ _) (omega arith))
 
 add-at : tie.Need-add-at
 unfolding scan-at part-at
 add-at c =
     let n = c .before .before in
-    omega (arith, part-fits _ (bytes-at bone (λ x. x .name) (λ x. x .bones) _ _ (n .before .opening-of .ensures) (n .bone-name .ensures)) _ (bone-name-part _ _ _) (omega arith))
+    let e = bytes-at bone (λ x. x .name) (λ x. x .bones) _ _ (n .before .opening-of .ensures) (n .bone-name .ensures) in
+    omega (arith, part-fits _ e _ (bone-name-part _ _ _) (omega arith))
 
 returns-2 : tie.Need-returns-2
 unfolding scan-at part-at
 returns-2 c =
     let n = c .before .before .before in
-    part-some _ (bytes-at bone (λ x. x .name) (λ x. x .bones) _ _ (n .before .opening-of .ensures) (n .bone-name .ensures)) (omega arith)
+    let e = bytes-at bone (λ x. x .name) (λ x. x .bones) _ _ (n .before .opening-of .ensures) (n .bone-name .ensures) in
+    part-some _ e (omega arith)
 
 pub vmd-bone-name-spec : {M : Type 1} → statement M
 vmd-bone-name-spec =

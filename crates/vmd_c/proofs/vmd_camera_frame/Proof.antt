@@ -13,15 +13,21 @@ returns : tie.Need-returns
 returns c =
     let t = c .before .before in
     let a = t .before .before in
-    refused camera-fields (fetch-at camera (λ x. x .cameras) _ _ (a .before .opening-of .ensures)) (a .camera-frame .ensures) (ap camera-answer (t .k .given .1)) _ _ (c .number .ensures)
+    refused camera-fields (fetch-at camera (λ x. x .cameras) _ _ (a .before .opening-of .ensures))
+    (a .camera-frame .ensures) (ap camera-answer (t .k .given .1)) _ _
+    (c .number .ensures)
 
 returns-2 : tie.Need-returns-2
 unfolding camera-words camera-fields
 returns-2 c =
     let t = c .before .before .before .before in
     let a = t .before .before in
-    found camera-fields (fetch-at camera (λ x. x .cameras) _ _ (a .before .opening-of .ensures)) (a .camera-frame .ensures) (ap camera-answer (t .x .given .1)) _ _ (λ v z. rw (c .before .wide .ensures, c .before .before .flag-to-byte .ensures, z))
+    found camera-fields (fetch-at camera (λ x. x .cameras) _ _ (a .before .opening-of .ensures))
+    (a .camera-frame .ensures) (ap camera-answer (t .x .given .1)) _ _
+    (λ v z. rw (c .before .wide .ensures, c .before .before .flag-to-byte .ensures, z))
 
 pub vmd-camera-frame-spec : {M : Type 1} → statement M
 vmd-camera-frame-spec =
-    tie.close (tie.spec (λ c κs. search needs) (λ c κs. search needs) (λ c. search needs) (λ c κs. search needs) (λ c. search needs) (λ c κs. search needs) (λ c κs. search needs) returns returns-2)
+    tie.close
+    (tie.spec (λ c κs. search needs) (λ c κs. search needs) (λ c. search needs) (λ c κs. search needs) (λ c. search needs)
+    (λ c κs. search needs) (λ c κs. search needs) returns returns-2)

@@ -9,37 +9,44 @@ use Rattle.vmd_c.proofs.vmd_ik_name.Tie as tie
 returns : tie.Need-returns
 returns c =
     let n = c .before .before in
-    part-none _ (ik-name-at _ _ _ _ (n .before .opening-of .ensures) (n .ik-name .ensures)) (c .before .if1 .taken)
+    let e = ik-name-at _ _ _ _ (n .before .opening-of .ensures) (n .ik-name .ensures) in
+    part-none _ e (c .before .if1 .taken)
 
 mul-at : tie.Need-mul-at
 mul-at c =
     let n = c .before in
-    scaled-fits _ _ 8 (ik-name-index _ _ _ _ _ (ik-name-at _ _ _ _ (n .before .opening-of .ensures) (n .ik-name .ensures)) (omega arith)) (n .before .before .before .before .good .1 .1 .1 .0 .1)
+    let e = ik-name-at _ _ _ _ (n .before .opening-of .ensures) (n .ik-name .ensures) in
+    scaled-fits _ _ 8 (ik-name-index _ _ _ _ _ e (omega arith)) (n .before .before .before .before .good .1 .1 .1 .0 .1)
 
 shared-slice-read-at : tie.Need-shared-slice-read-at
 shared-slice-read-at c =
     let n = c .before .before in
-    omega (arith, ik-name-index _ _ _ _ _ (ik-name-at _ _ _ _ (n .before .opening-of .ensures) (n .ik-name .ensures)) (omega arith))
+    let e = ik-name-at _ _ _ _ (n .before .opening-of .ensures) (n .ik-name .ensures) in
+    omega (arith, ik-name-index _ _ _ _ _ e (omega arith))
 
 add-at : tie.Need-add-at
 add-at c =
     let n = c .before .before in
-    omega (arith, part-fits _ (ik-name-at _ _ _ _ (n .before .opening-of .ensures) (n .ik-name .ensures)) _ (ik-name-part _ _ _ _ _) (omega arith))
+    let e = ik-name-at _ _ _ _ (n .before .opening-of .ensures) (n .ik-name .ensures) in
+    omega (arith, part-fits _ e _ (ik-name-part _ _ _ _ _) (omega arith))
 
 mul-at-2 : tie.Need-mul-at-2
 mul-at-2 c =
     let n = c .before .before in
-    omega (arith, part-fits _ (ik-name-at _ _ _ _ (n .before .opening-of .ensures) (n .ik-name .ensures)) _ (ik-name-part _ _ _ _ _) (omega arith))
+    let e = ik-name-at _ _ _ _ (n .before .opening-of .ensures) (n .ik-name .ensures) in
+    omega (arith, part-fits _ e _ (ik-name-part _ _ _ _ _) (omega arith))
 
 add-at-2 : tie.Need-add-at-2
 add-at-2 c =
     let n = c .before .before in
-    omega (arith, part-fits _ (ik-name-at _ _ _ _ (n .before .opening-of .ensures) (n .ik-name .ensures)) _ (ik-name-part _ _ _ _ _) (omega arith))
+    let e = ik-name-at _ _ _ _ (n .before .opening-of .ensures) (n .ik-name .ensures) in
+    omega (arith, part-fits _ e _ (ik-name-part _ _ _ _ _) (omega arith))
 
 returns-2 : tie.Need-returns-2
 returns-2 c =
     let n = c .before .before .before in
-    part-some _ (ik-name-at _ _ _ _ (n .before .opening-of .ensures) (n .ik-name .ensures)) (omega arith)
+    let e = ik-name-at _ _ _ _ (n .before .opening-of .ensures) (n .ik-name .ensures) in
+    part-some _ e (omega arith)
 
 pub vmd-ik-name-spec : {M : Type 1} → statement M
 vmd-ik-name-spec =

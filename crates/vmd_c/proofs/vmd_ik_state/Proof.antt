@@ -11,15 +11,21 @@ returns : tie.Need-returns
 returns c =
     let t = c .before .before in
     let a = t .before .before in
-    refused ik-fields (fetch-ik-at _ _ _ _ (a .before .opening-of .ensures)) (a .ik-state .ensures) (ap ik-state-answer (t .k .given .1)) _ _ (c .number .ensures)
+    refused ik-fields (fetch-ik-at _ _ _ _ (a .before .opening-of .ensures))
+    (a .ik-state .ensures) (ap ik-state-answer (t .k .given .1)) _ _
+    (c .number .ensures)
 
 returns-2 : tie.Need-returns-2
 unfolding ik-fields
 returns-2 c =
     let t = c .before .before .before in
     let a = t .before .before in
-    found ik-fields (fetch-ik-at _ _ _ _ (a .before .opening-of .ensures)) (a .ik-state .ensures) (ap ik-state-answer (t .x .given .1)) _ _ (λ v z. rw (c .wide .ensures, c .before .flag-to-byte .ensures, z))
+    found ik-fields (fetch-ik-at _ _ _ _ (a .before .opening-of .ensures))
+    (a .ik-state .ensures) (ap ik-state-answer (t .x .given .1)) _ _
+    (λ v z. rw (c .wide .ensures, c .before .flag-to-byte .ensures, z))
 
 pub vmd-ik-state-spec : {M : Type 1} → statement M
 vmd-ik-state-spec =
-    tie.close (tie.spec (λ c κs. search needs) (λ c κs. search needs) (λ c. search needs) (λ c κs. search needs) (λ c. search needs) (λ c κs. search needs) (λ c κs. search needs) returns returns-2)
+    tie.close
+    (tie.spec (λ c κs. search needs) (λ c κs. search needs) (λ c. search needs) (λ c κs. search needs) (λ c. search needs)
+    (λ c κs. search needs) (λ c κs. search needs) returns returns-2)

@@ -13,7 +13,8 @@ returns : tie.Need-returns
 returns c =
     let t = c .before .before in
     let a = t .before .before in
-    let e = told light-floats (fetch-at light (λ x. x .lights) _ _ (a .before .opening-of .ensures)) (a .light-frame .ensures) (ap light-answer (t .k .given .1)) in
+    let e = told light-floats (fetch-at light (λ x. x .lights) _ _ (a .before .opening-of .ensures))
+    (a .light-frame .ensures) (ap light-answer (t .k .given .1)) in
     (status-declined e (c .number .ensures), slot-declined _ _ e, slot-declined _ _ e)
 
 returns-2 : tie.Need-returns-2
@@ -21,7 +22,8 @@ unfolding light-values light-floats
 returns-2 c =
     let t = c .before .before in
     let a = t .before .before in
-    let r = arrived light-floats (fetch-at light (λ x. x .lights) _ _ (a .before .opening-of .ensures)) (a .light-frame .ensures) (ap light-answer (t .x .given .1)) in
+    let r = arrived light-floats (fetch-at light (λ x. x .lights) _ _ (a .before .opening-of .ensures))
+    (a .light-frame .ensures) (ap light-answer (t .x .given .1)) in
     (status-given (r .is), slot-filled _ _ r (λ v z. rw z), slot-filled _ _ r (λ v z. rw z))
 
 pub vmd-light-frame-spec : {M : Type 1} → statement M

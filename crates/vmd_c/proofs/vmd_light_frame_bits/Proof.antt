@@ -13,14 +13,18 @@ returns : tie.Need-returns
 returns c =
     let t = c .before .before in
     let a = t .before .before in
-    refused light-bits (fetch-at light (λ x. x .lights) _ _ (a .before .opening-of .ensures)) (a .light-frame-bits .ensures) (ap light-bits-answer (t .k .given .1)) _ _ (c .number .ensures)
+    refused light-bits (fetch-at light (λ x. x .lights) _ _ (a .before .opening-of .ensures))
+    (a .light-frame-bits .ensures) (ap light-bits-answer (t .k .given .1)) _ _
+    (c .number .ensures)
 
 returns-2 : tie.Need-returns-2
 unfolding light-words light-bits
 returns-2 c =
     let t = c .before .before in
     let a = t .before .before in
-    found light-bits (fetch-at light (λ x. x .lights) _ _ (a .before .opening-of .ensures)) (a .light-frame-bits .ensures) (ap light-bits-answer (t .x .given .1)) _ _ (λ v z. rw z)
+    found light-bits (fetch-at light (λ x. x .lights) _ _ (a .before .opening-of .ensures))
+    (a .light-frame-bits .ensures) (ap light-bits-answer (t .x .given .1)) _ _
+    (λ v z. rw z)
 
 pub vmd-light-frame-bits-spec : {M : Type 1} → statement M
 vmd-light-frame-bits-spec =

@@ -13,14 +13,18 @@ returns : tie.Need-returns
 returns c =
     let t = c .before .before in
     let a = t .before .before in
-    refused morph-fields (fetch-at morph (λ x. x .morphs) _ _ (a .before .opening-of .ensures)) (a .morph-frame .ensures) (ap morph-answer (t .k .given .1)) _ _ (c .number .ensures)
+    refused morph-fields (fetch-at morph (λ x. x .morphs) _ _ (a .before .opening-of .ensures))
+    (a .morph-frame .ensures) (ap morph-answer (t .k .given .1)) _ _
+    (c .number .ensures)
 
 returns-2 : tie.Need-returns-2
 unfolding morph-words morph-fields
 returns-2 c =
     let t = c .before .before in
     let a = t .before .before in
-    found morph-fields (fetch-at morph (λ x. x .morphs) _ _ (a .before .opening-of .ensures)) (a .morph-frame .ensures) (ap morph-answer (t .x .given .1)) _ _ (λ v z. rw z)
+    found morph-fields (fetch-at morph (λ x. x .morphs) _ _ (a .before .opening-of .ensures))
+    (a .morph-frame .ensures) (ap morph-answer (t .x .given .1)) _ _
+    (λ v z. rw z)
 
 pub vmd-morph-frame-spec : {M : Type 1} → statement M
 vmd-morph-frame-spec =

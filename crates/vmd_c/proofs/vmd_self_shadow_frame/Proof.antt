@@ -13,15 +13,20 @@ returns : tie.Need-returns
 returns c =
     let t = c .before .before in
     let a = t .before .before in
-    refused self-shadow-fields (fetch-at self-shadow (λ x. x .self-shadows) _ _ (a .before .opening-of .ensures)) (a .self-shadow-frame .ensures) (ap self-shadow-answer (t .k .given .1)) _ _ (c .number .ensures)
+    refused self-shadow-fields (fetch-at self-shadow (λ x. x .self-shadows) _ _ (a .before .opening-of .ensures))
+    (a .self-shadow-frame .ensures) (ap self-shadow-answer (t .k .given .1)) _ _
+    (c .number .ensures)
 
 returns-2 : tie.Need-returns-2
 unfolding self-shadow-words self-shadow-fields
 returns-2 c =
     let t = c .before .before .before in
     let a = t .before .before in
-    found self-shadow-fields (fetch-at self-shadow (λ x. x .self-shadows) _ _ (a .before .opening-of .ensures)) (a .self-shadow-frame .ensures) (ap self-shadow-answer (t .x .given .1)) _ _ (λ v z. rw (c .before .wide .ensures, z))
+    found self-shadow-fields (fetch-at self-shadow (λ x. x .self-shadows) _ _ (a .before .opening-of .ensures))
+    (a .self-shadow-frame .ensures) (ap self-shadow-answer (t .x .given .1)) _ _
+    (λ v z. rw (c .before .wide .ensures, z))
 
 pub vmd-self-shadow-frame-spec : {M : Type 1} → statement M
 vmd-self-shadow-frame-spec =
-    tie.close (tie.spec (λ c κs. search needs) (λ c κs. search needs) (λ c. search needs) (λ c κs. search needs) (λ c. search needs) (λ c κs. search needs) returns returns-2)
+    tie.close
+    (tie.spec (λ c κs. search needs) (λ c κs. search needs) (λ c. search needs) (λ c κs. search needs) (λ c. search needs) (λ c κs. search needs) returns returns-2)

@@ -1,0 +1,1 @@
+// The original's answers, computed in specs/; no code.

@@ -1,0 +1,316 @@
+//! One file through every call of the reader and the exporter.
+
+use crate::check::{check_size, check_written, same, Checked};
+use crate::lent::{Input, Output, Scratch};
+use crate::library::{self, Opening};
+use mmd_anim_format::vmd::{
+    read_header, VmdParsedAnimation, VmdParsedBoneFrame, VmdParsedCameraFrame, VmdParsedLightFrame, VmdParsedMorphFrame,
+    VmdParsedPropertyFrame, VmdParsedSelfShadowFrame,
+};
+use oracle::files::{IK_STATE_SIZE, SIZES};
+use oracle::original;
+
+const OUTSIDE: u32 = 4;
+const SCRATCH_TOO_SHORT: u32 = 3;
+const UNSET: u32 = 0xdead_beef;
+
+#[derive(Default)]
+pub struct FileCheck {
+    input: Input,
+    output: Output,
+    scratch: Scratch,
+    pub records: u64,
+    pub lights: LightNans,
+}
+
+/// The call with f32 fields keeps a NaN a NaN, and need not keep its bits.
+#[derive(Default)]
+pub struct LightNans {
+    pub seen: u64,
+    pub other_bits: u64,
+    pub first: Option<(u32, u32)>,
+}
+
+fn unset_opening() -> Opening {
+    Opening { counts: [UNSET; 6], places: [u64::MAX - 1; 6], totals: [u64::MAX - 2; 2] }
+}
+
+impl FileCheck {
+    /// The original's answer, 0 or its refusal; or a difference.
+    pub fn check(&mut self, file: &[u8]) -> Result<u32, String> {
+        let mut input = std::mem::take(&mut self.input);
+        let checked = self.check_held(input.hold(file));
+        self.input = input;
+        checked
+    }
+
+    fn check_held(&mut self, file: &[u8]) -> Result<u32, String> {
+        let take = original::read(file);
+        let exported = take.as_ref().map(original::export).map_err(|&refusal| refusal);
+        check_model_name(file)?;
+        match &take {
+            Err(refusal) => self.check_refused(file, *refusal)?,
+            Ok(take) => self.check_accepted(file, take)?,
+        }
+        check_size("export size", &exported, |size| library::export_size(file, size))?;
+        check_written("export", &exported, &mut self.output, |out, written| library::export_animation(file, out, written))?;
+        Ok(take.err().unwrap_or(0))
+    }
+
+    fn check_refused(&mut self, file: &[u8], refusal: u32) -> Checked {
+        for places in [0, 3] {
+            self.check_opening_refused(file, places, refusal)?;
+        }
+        Ok(())
+    }
+
+    fn check_opening_refused(&mut self, file: &[u8], places: usize, refusal: u32) -> Checked {
+        let mut opening = unset_opening();
+        let answer = library::parse_animation(file, self.scratch.lend(places), &mut opening);
+        same("opening: answer", answer, refusal)?;
+        same("opening refused: slots", opening, unset_opening())?;
+        self.scratch.holds(&[]).map_err(|difference| format!("opening refused: {difference}"))
+    }
+
+    fn check_accepted(&mut self, file: &[u8], take: &VmdParsedAnimation) -> Checked {
+        let (opening, positions) = opening_of(file, take);
+        let frames = positions.len();
+        for places in [frames, frames + 3] {
+            let mut ours = unset_opening();
+            let answer = library::parse_animation(file, self.scratch.lend(places), &mut ours);
+            same("opening: answer", answer, 0)?;
+            same("opening", &ours, &opening)?;
+            self.scratch.holds(&positions).map_err(|difference| format!("opening: {difference}"))?;
+        }
+        if frames > 0 {
+            self.check_opening_refused(file, frames - 1, SCRATCH_TOO_SHORT)?;
+        }
+        self.check_records(file, take, &opening, &positions)
+    }
+
+    fn check_records(&mut self, file: &[u8], take: &VmdParsedAnimation, opening: &Opening, positions: &[u64]) -> Checked {
+        let opened = Opened { file, opening, positions };
+        for (i, frame) in take.bone_frames.iter().enumerate() {
+            opened.check_bone(i, frame)?;
+        }
+        for (i, frame) in take.morph_frames.iter().enumerate() {
+            opened.check_morph(i, frame)?;
+        }
+        for (i, frame) in take.camera_frames.iter().enumerate() {
+            opened.check_camera(i, frame)?;
+        }
+        for (i, frame) in take.light_frames.iter().enumerate() {
+            opened.check_light(i, frame, &mut self.lights)?;
+        }
+        for (i, frame) in take.self_shadow_frames.iter().enumerate() {
+            opened.check_self_shadow(i, frame)?;
+        }
+        for (i, frame) in take.property_frames.iter().enumerate() {
+            opened.check_property(i, frame)?;
+        }
+        self.records += opening.counts.iter().map(|&count| count as u64).sum::<u64>() + opening.totals[0];
+        opened.check_past_the_ends()
+    }
+}
+
+/// The original's reader keeps no places: these follow document 01 over the counts that it found.
+fn opening_of(file: &[u8], take: &VmdParsedAnimation) -> (Opening, Vec<u64>) {
+    let found = &take.metadata.counts;
+    let counts = [found.bones, found.morphs, found.cameras, found.lights, found.self_shadows, found.properties];
+    let (mut at, mut places) = (50, [file.len() as u64; 6]);
+    for (i, &count) in counts.iter().enumerate() {
+        let Some(bytes) = file.get(at..at + 4) else { break };
+        if u32::from_le_bytes(bytes.try_into().unwrap()) as usize != count {
+            break; // an oversized count
+        }
+        places[i] = at as u64 + 4;
+        at += 4 + count * SIZES[i];
+    }
+    let mut at = places[5];
+    let positions = take.property_frames.iter().map(|frame| {
+        let position = at;
+        at += (SIZES[5] + IK_STATE_SIZE * frame.ik_states.len()) as u64;
+        position
+    });
+    let positions = positions.collect();
+    let ik_states: usize = take.property_frames.iter().map(|frame| frame.ik_states.len()).sum();
+    let totals = [ik_states as u64, take.metadata.max_frame as u64];
+    (Opening { counts: counts.map(|count| count as u32), places, totals }, positions)
+}
+
+/// The part's bytes.
+pub fn bytes_at<'a>(what: &str, file: &'a [u8], part: [u64; 2]) -> Result<&'a [u8], String> {
+    let [begin, len] = part;
+    let inside = begin.checked_add(len).is_some_and(|end| end <= file.len() as u64);
+    if inside {
+        Ok(&file[begin as usize..(begin + len) as usize])
+    } else {
+        Err(format!("{what}: {len} bytes at {begin} of {}", file.len()))
+    }
+}
+
+/// The file's model name, empty where its header is refused.
+pub fn model_of(file: &[u8]) -> Vec<u8> {
+    let field = read_header(file).map_or([0; 20], |(header, _)| header.model_name_bytes);
+    field.split(|&byte| byte == 0).next().unwrap().to_vec()
+}
+
+fn check_model_name(file: &[u8]) -> Checked {
+    let part = library::model_name(file);
+    same("model name", bytes_at("model name", file, part)?, &model_of(file))?;
+    if read_header(file).is_err() {
+        same("model name of a refused header", part, [0, 0])?;
+    }
+    Ok(())
+}
+
+fn bits<const N: usize>(values: [f32; N]) -> [u32; N] {
+    values.map(f32::to_bits)
+}
+
+struct Opened<'a> {
+    file: &'a [u8],
+    opening: &'a Opening,
+    positions: &'a [u64],
+}
+
+impl Opened<'_> {
+    fn check_part(&self, what: &str, part: [u64; 2], expected: &[u8]) -> Checked {
+        same(what, bytes_at(what, self.file, part)?, expected)
+    }
+
+    fn check_bone(&self, i: usize, frame: &VmdParsedBoneFrame) -> Checked {
+        let mut record = [UNSET; 8];
+        same("bone: answer", library::bone_frame(self.file, self.opening, i, &mut record), 0)?;
+        let ([x, y, z], [rx, ry, rz, rw]) = (bits(frame.translation), bits(frame.rotation));
+        same("bone", record, [frame.frame, x, y, z, rx, ry, rz, rw])?;
+        self.check_part("bone name", library::bone_name(self.file, self.opening, i), &frame.bone_name_bytes)?;
+        self.check_part("bone interpolation", library::bone_interpolation(self.file, self.opening, i), &frame.interpolation)
+    }
+
+    fn check_morph(&self, i: usize, frame: &VmdParsedMorphFrame) -> Checked {
+        let mut record = [UNSET; 2];
+        same("morph: answer", library::morph_frame(self.file, self.opening, i, &mut record), 0)?;
+        same("morph", record, [frame.frame, frame.weight.to_bits()])?;
+        self.check_part("morph name", library::morph_name(self.file, self.opening, i), &frame.morph_name_bytes)
+    }
+
+    fn check_camera(&self, i: usize, frame: &VmdParsedCameraFrame) -> Checked {
+        let mut record = [UNSET; 10];
+        same("camera: answer", library::camera_frame(self.file, self.opening, i, &mut record), 0)?;
+        let ([x, y, z], [rx, ry, rz]) = (bits(frame.position), bits(frame.rotation));
+        let perspective = frame.perspective as u32;
+        same("camera", record, [frame.frame, frame.distance.to_bits(), x, y, z, rx, ry, rz, frame.fov, perspective])?;
+        self.check_part("camera interpolation", library::camera_interpolation(self.file, self.opening, i), &frame.interpolation)
+    }
+
+    fn check_light(&self, i: usize, frame: &VmdParsedLightFrame, nans: &mut LightNans) -> Checked {
+        let mut record = [UNSET; 7];
+        same("light bits: answer", library::light_frame_bits(self.file, self.opening, i, &mut record), 0)?;
+        let ([r, g, b], [x, y, z]) = (bits(frame.color), bits(frame.direction));
+        same("light bits", record, [frame.frame, r, g, b, x, y, z])?;
+        let (mut number, mut values) = (UNSET, [0.0; 6]);
+        same("light: answer", library::light_frame(self.file, self.opening, i, &mut number, &mut values), 0)?;
+        same("light: frame", number, frame.frame)?;
+        for (value, expected) in values.into_iter().zip([r, g, b, x, y, z]) {
+            nans.check(value.to_bits(), expected)?;
+        }
+        Ok(())
+    }
+
+    fn check_self_shadow(&self, i: usize, frame: &VmdParsedSelfShadowFrame) -> Checked {
+        let mut record = [UNSET; 3];
+        same("self-shadow: answer", library::self_shadow_frame(self.file, self.opening, i, &mut record), 0)?;
+        same("self-shadow", record, [frame.frame, frame.mode as u32, frame.distance.to_bits()])
+    }
+
+    fn check_property(&self, i: usize, frame: &VmdParsedPropertyFrame) -> Checked {
+        let mut record = [UNSET; 3];
+        let answer = library::property_frame(self.file, self.opening, self.positions, i, &mut record);
+        same("property: answer", answer, 0)?;
+        let ik_states = frame.ik_states.len();
+        same("property", record, [frame.frame, frame.visible as u32, ik_states as u32])?;
+        for (j, state) in frame.ik_states.iter().enumerate() {
+            let mut enabled = UNSET;
+            let answer = library::ik_state(self.file, self.opening, self.positions, i, j, &mut enabled);
+            same("IK state: answer", answer, 0)?;
+            same("IK state: enabled", enabled, state.enabled as u32)?;
+            self.check_part("IK name", library::ik_name(self.file, self.opening, self.positions, i, j), &state.bone_name_bytes)?;
+        }
+        self.check_no_ik_state(self.positions, i, ik_states)?;
+        self.check_no_property(&self.positions[..i], i)
+    }
+
+    /// Numbers at and above the counts.
+    fn check_past_the_ends(&self) -> Checked {
+        let (file, opening) = (self.file, self.opening);
+        let past = |section: usize| {
+            let count = opening.counts[section] as usize;
+            [count, count + 1, usize::MAX]
+        };
+        for i in past(0) {
+            refused("bone", |record: &mut [u32; 8]| library::bone_frame(file, opening, i, record))?;
+            same("name of no bone", library::bone_name(file, opening, i), [0, 0])?;
+            same("interpolation of no bone", library::bone_interpolation(file, opening, i), [0, 0])?;
+        }
+        for i in past(1) {
+            refused("morph", |record: &mut [u32; 2]| library::morph_frame(file, opening, i, record))?;
+            same("name of no morph", library::morph_name(file, opening, i), [0, 0])?;
+        }
+        for i in past(2) {
+            refused("camera", |record: &mut [u32; 10]| library::camera_frame(file, opening, i, record))?;
+            same("interpolation of no camera", library::camera_interpolation(file, opening, i), [0, 0])?;
+        }
+        for i in past(3) {
+            refused("light bits", |record: &mut [u32; 7]| library::light_frame_bits(file, opening, i, record))?;
+            let (mut number, mut values) = (UNSET, [7.0; 6]);
+            same("no light: answer", library::light_frame(file, opening, i, &mut number, &mut values), OUTSIDE)?;
+            same("no light: slots", (number, values), (UNSET, [7.0; 6]))?;
+        }
+        for i in past(4) {
+            refused("self-shadow", |record: &mut [u32; 3]| library::self_shadow_frame(file, opening, i, record))?;
+        }
+        for i in past(5) {
+            self.check_no_property(self.positions, i)?;
+        }
+        Ok(())
+    }
+
+    fn check_no_property(&self, scratch: &[u64], i: usize) -> Checked {
+        refused("property", |record: &mut [u32; 3]| library::property_frame(self.file, self.opening, scratch, i, record))?;
+        self.check_no_ik_state(scratch, i, 0)
+    }
+
+    fn check_no_ik_state(&self, scratch: &[u64], i: usize, j: usize) -> Checked {
+        for j in [j, j + 1, usize::MAX] {
+            refused("IK state", |slot: &mut [u32; 1]| library::ik_state(self.file, self.opening, scratch, i, j, &mut slot[0]))?;
+            same("name of no IK state", library::ik_name(self.file, self.opening, scratch, i, j), [0, 0])?;
+        }
+        Ok(())
+    }
+}
+
+/// A fetch of no record: refusal 4, its slot unchanged.
+fn refused<const N: usize>(what: &str, fetch: impl Fn(&mut [u32; N]) -> u32) -> Checked {
+    let mut record = [UNSET; N];
+    let answer = fetch(&mut record);
+    same(&format!("no {what}: answer"), answer, OUTSIDE)?;
+    same(&format!("no {what}: slot"), record, [UNSET; N])
+}
+
+impl LightNans {
+    fn check(&mut self, ours: u32, expected: u32) -> Checked {
+        if !f32::from_bits(expected).is_nan() {
+            return same("light value", ours, expected);
+        }
+        if !f32::from_bits(ours).is_nan() {
+            return same("light value", ours, expected);
+        }
+        self.seen += 1;
+        if ours != expected {
+            self.other_bits += 1;
+            self.first.get_or_insert((ours, expected));
+        }
+        Ok(())
+    }
+}

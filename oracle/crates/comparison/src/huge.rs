@@ -1,0 +1,98 @@
+//! Counts at and above 4,294,967,295. Memory that is mapped and not written costs nothing, and the calls refuse before they
+//! look at the records: so the columns and files here can be as long as they say.
+
+use crate::check::{check_size, check_written, same};
+use crate::lent::Output;
+use crate::library;
+use crate::parts::check_built;
+use crate::tally::Tally;
+use oracle::files::{Pieces, SIZES};
+use oracle::original;
+use oracle::parts::{Columns, Parts};
+use std::ffi::c_void;
+
+const MOST: usize = u32::MAX as usize;
+const SELF_SHADOWS: usize = 4;
+
+extern "C" {
+    fn mmap(address: *mut c_void, len: usize, protection: i32, flags: i32, file: i32, offset: i64) -> *mut c_void;
+}
+
+/// This many zero bytes, of which only those take memory that are written.
+fn zeros(len: usize) -> Option<&'static mut [u8]> {
+    const READ_AND_WRITE: i32 = 1 | 2;
+    const PRIVATE_ANONYMOUS_NORESERVE: i32 = 0x2 | 0x20 | 0x4000;
+    let mapped = unsafe { mmap(std::ptr::null_mut(), len, READ_AND_WRITE, PRIVATE_ANONYMOUS_NORESERVE, -1, 0) };
+    (mapped as isize != -1).then(|| unsafe { std::slice::from_raw_parts_mut(mapped.cast(), len) })
+}
+
+pub fn run() -> Tally {
+    let mut tally = Tally::new("Counts at and above 4,294,967,295", &[]);
+    match zeros(64 * (MOST + 1)) {
+        Some(zeros) => columns(&mut tally, zeros),
+        None => println!("columns of so many records: not run, the memory could not be mapped"),
+    }
+    let half = SIZES[SELF_SHADOWS] * (MOST / 2 + 1) + 74;
+    match (zeros(half), zeros(half)) {
+        (Some(first), Some(second)) => files(&mut tally, first, second),
+        _ => println!("files of so many records: not run, the memory could not be mapped"),
+    }
+    tally
+}
+
+// ---- columns, against the original
+
+fn columns(tally: &mut Tally, zeros: &[u8]) {
+    let mut output = Output::default();
+    for (bones, morphs) in [(MOST + 1, 0), (0, MOST + 1), (MOST + 1, MOST + 1), (MOST, 0), (0, MOST), (MOST, MOST + 1)] {
+        for frames_missing in [0, 1] {
+            let columns = columns_of(zeros, bones, morphs, frames_missing);
+            let expected = original::build_columns(&Parts::default(), columns).map(|take| original::export(&take));
+            let checked = check_built(&Parts::default(), columns, &expected, &mut output);
+            let answer = expected.err().unwrap_or(0);
+            tally.count("columns, no names", checked.map(|()| answer), || format!("{bones} bones, {morphs} morphs"));
+        }
+    }
+}
+
+fn columns_of(zeros: &[u8], bones: usize, morphs: usize, frames_missing: usize) -> Columns<'_> {
+    let numbers = |len: usize| unsafe { std::slice::from_raw_parts(zeros[..4 * len].as_ptr().cast::<u32>(), len) };
+    let floats = |len: usize| unsafe { std::slice::from_raw_parts(zeros[..4 * len].as_ptr().cast::<f32>(), len) };
+    Columns {
+        bone_name_indices: numbers(bones),
+        bone_frames: numbers(bones.saturating_sub(frames_missing)),
+        bone_translations_xyz: floats(3 * bones),
+        bone_rotations_xyzw: floats(4 * bones),
+        bone_interpolations: &zeros[..64 * bones],
+        morph_name_indices: numbers(morphs),
+        morph_frames: numbers(morphs.saturating_sub(frames_missing)),
+        morph_weights: floats(morphs),
+    }
+}
+
+// ---- files, against document 01: the original would need a record in memory for each
+
+/// A file of so many self-shadows, all zero.
+fn shadows(zeros: &mut [u8], count: u32) -> &[u8] {
+    let mut pieces = Pieces::empty();
+    pieces.sections[SELF_SHADOWS].count = count;
+    let head = pieces.first_sections(SELF_SHADOWS + 1);
+    zeros[..head.len()].copy_from_slice(&head);
+    &zeros[..head.len() + SIZES[SELF_SHADOWS] * count as usize]
+}
+
+fn files(tally: &mut Tally, first: &mut [u8], second: &mut [u8]) {
+    let mut output = Output::default();
+    let half = (MOST / 2 + 1) as u32;
+    let first = shadows(first, half);
+    let too_many = Err(11);
+    let checked = check_size("join size", &too_many, |size| library::join_size(first, first, size)).and_then(|()| {
+        check_written("join", &too_many, &mut output, |out, written| library::join_animations(first, first, out, written))
+    });
+    tally.count("joins of two halves", checked.map(|()| 11), || format!("{half} self-shadows twice"));
+    let second = shadows(second, half - 1);
+    let mut size = 0;
+    let checked = same("join size: answer", library::join_size(first, second, &mut size), 0)
+        .and_then(|()| same("join size", size, 74 + (SIZES[SELF_SHADOWS] * MOST) as u64));
+    tally.count("joins of two halves", checked.map(|()| 0), || format!("{half} self-shadows and one fewer"));
+}

@@ -1,0 +1,374 @@
+//! The proved library behind functions on slices. A self-test has one of its results altered here.
+
+use crate::alter::{altered, Alter};
+use crate::header;
+use oracle::original;
+use oracle::parts::{Columns, Parts};
+
+/// A slice's pointer, null where it has no elements, which include/vmd.h allows.
+fn pointer<T>(slice: &[T]) -> *const T {
+    if slice.is_empty() {
+        std::ptr::null()
+    } else {
+        slice.as_ptr()
+    }
+}
+
+fn pointer_mut<T>(slice: &mut [T]) -> *mut T {
+    if slice.is_empty() {
+        std::ptr::null_mut()
+    } else {
+        slice.as_mut_ptr()
+    }
+}
+
+/// The slots of an opening.
+#[derive(Clone, PartialEq, Eq, Debug)]
+pub struct Opening {
+    pub counts: [u32; 6],
+    pub places: [u64; 6],
+    pub totals: [u64; 2],
+}
+
+pub fn parse_animation(file: &[u8], scratch: &mut [u64], opening: &mut Opening) -> u32 {
+    let (counts, places, totals) = (&mut opening.counts, &mut opening.places, &mut opening.totals);
+    let answer = unsafe {
+        header::vmd_parse_animation(
+            pointer(file),
+            file.len(),
+            pointer_mut(scratch),
+            scratch.len(),
+            counts.as_mut_ptr(),
+            places.as_mut_ptr(),
+            totals.as_mut_ptr(),
+        )
+    };
+    alter_opening(answer, scratch, opening)
+}
+
+fn alter_opening(answer: u32, scratch: &mut [u64], opening: &mut Opening) -> u32 {
+    if altered(Alter::OpeningRefusal) && answer == 2 {
+        return 1;
+    }
+    if altered(Alter::ScratchInRefusal) && answer != 0 {
+        scratch.iter_mut().for_each(|place| *place = 0);
+    }
+    if answer != 0 {
+        return answer;
+    }
+    let frames = opening.counts[5] as usize;
+    if altered(Alter::OpeningCount) {
+        opening.counts[3] += 1;
+    } else if altered(Alter::OpeningPlace) {
+        opening.places[2] -= 1;
+    } else if altered(Alter::IkStatesDropped) {
+        opening.totals[0] = 0;
+    } else if altered(Alter::LargestFrame) {
+        opening.totals[1] &= 0x7fff_ffff;
+    } else if altered(Alter::ScratchPosition) && frames > 1 {
+        scratch[1] += 21;
+    } else if altered(Alter::ScratchPastItsEnd) && frames < scratch.len() {
+        scratch[frames] = 0;
+    }
+    answer
+}
+
+// ---- records by number
+
+type ByNumber = unsafe extern "C" fn(*const u8, usize, *const u32, *const u64, usize, *mut u32) -> u32;
+type PartByNumber = unsafe extern "C" fn(*const u8, usize, *const u32, *const u64, usize, *mut u64);
+
+fn by_number(call: ByNumber, file: &[u8], opening: &Opening, i: usize, record: &mut [u32]) -> u32 {
+    let answer =
+        unsafe { call(pointer(file), file.len(), opening.counts.as_ptr(), opening.places.as_ptr(), i, record.as_mut_ptr()) };
+    if altered(Alter::OutsideAccepted) {
+        return 0;
+    }
+    answer
+}
+
+fn part_by_number(call: PartByNumber, file: &[u8], opening: &Opening, i: usize) -> [u64; 2] {
+    let mut part = [u64::MAX; 2];
+    unsafe { call(pointer(file), file.len(), opening.counts.as_ptr(), opening.places.as_ptr(), i, part.as_mut_ptr()) };
+    part
+}
+
+/// frame, translation x y z, rotation x y z w
+pub fn bone_frame(file: &[u8], opening: &Opening, i: usize, record: &mut [u32; 8]) -> u32 {
+    let answer = by_number(header::vmd_bone_frame, file, opening, i, record);
+    for bits in &mut record[1..] {
+        if altered(Alter::NanMadeQuiet) && f32::from_bits(*bits).is_nan() {
+            *bits |= 0x0040_0000;
+        }
+        if altered(Alter::ZeroSignLost) && *bits == 0x8000_0000 {
+            *bits = 0;
+        }
+    }
+    answer
+}
+
+/// frame, weight
+pub fn morph_frame(file: &[u8], opening: &Opening, i: usize, record: &mut [u32; 2]) -> u32 {
+    let answer = by_number(header::vmd_morph_frame, file, opening, i, record);
+    if altered(Alter::MorphWeight) && answer == 0 {
+        record[1] ^= 1;
+    }
+    answer
+}
+
+/// frame, distance, position x y z, rotation x y z, field of view, perspective
+pub fn camera_frame(file: &[u8], opening: &Opening, i: usize, record: &mut [u32; 10]) -> u32 {
+    let answer = by_number(header::vmd_camera_frame, file, opening, i, record);
+    if altered(Alter::PerspectiveTurned) && answer == 0 {
+        record[9] ^= 1;
+    }
+    answer
+}
+
+/// frame; color r g b, direction x y z
+pub fn light_frame(file: &[u8], opening: &Opening, i: usize, frame: &mut u32, values: &mut [f32; 6]) -> u32 {
+    unsafe {
+        header::vmd_light_frame(
+            pointer(file),
+            file.len(),
+            opening.counts.as_ptr(),
+            opening.places.as_ptr(),
+            i,
+            frame,
+            values.as_mut_ptr(),
+        )
+    }
+}
+
+/// frame, color r g b, direction x y z
+pub fn light_frame_bits(file: &[u8], opening: &Opening, i: usize, record: &mut [u32; 7]) -> u32 {
+    let answer = by_number(header::vmd_light_frame_bits, file, opening, i, record);
+    if altered(Alter::LightSwapped) && answer == 0 {
+        record.swap(3, 4);
+    }
+    answer
+}
+
+/// frame, mode, distance
+pub fn self_shadow_frame(file: &[u8], opening: &Opening, i: usize, record: &mut [u32; 3]) -> u32 {
+    let answer = by_number(header::vmd_self_shadow_frame, file, opening, i, record);
+    if altered(Alter::SelfShadowMode) && answer == 0 {
+        record[1] = record[1].min(2);
+    }
+    answer
+}
+
+/// frame, visible, number of IK states
+pub fn property_frame(file: &[u8], opening: &Opening, scratch: &[u64], i: usize, record: &mut [u32; 3]) -> u32 {
+    unsafe {
+        header::vmd_property_frame(
+            pointer(file),
+            file.len(),
+            opening.counts.as_ptr(),
+            opening.places.as_ptr(),
+            pointer(scratch),
+            scratch.len(),
+            i,
+            record.as_mut_ptr(),
+        )
+    }
+}
+
+pub fn ik_state(file: &[u8], opening: &Opening, scratch: &[u64], i: usize, j: usize, enabled: &mut u32) -> u32 {
+    let answer = unsafe {
+        header::vmd_ik_state(
+            pointer(file),
+            file.len(),
+            opening.counts.as_ptr(),
+            opening.places.as_ptr(),
+            pointer(scratch),
+            scratch.len(),
+            i,
+            j,
+            enabled,
+        )
+    };
+    if altered(Alter::IkEnabled) && answer == 0 {
+        *enabled = 1;
+    }
+    answer
+}
+
+// ---- names and interpolation bytes: where they begin in the file, and how many there are
+
+pub fn bone_name(file: &[u8], opening: &Opening, i: usize) -> [u64; 2] {
+    let mut part = part_by_number(header::vmd_bone_name, file, opening, i);
+    if altered(Alter::NameLonger) && part[1] < 15 && part[1] > 0 {
+        part[1] += 1;
+    }
+    part
+}
+
+pub fn morph_name(file: &[u8], opening: &Opening, i: usize) -> [u64; 2] {
+    part_by_number(header::vmd_morph_name, file, opening, i)
+}
+
+pub fn bone_interpolation(file: &[u8], opening: &Opening, i: usize) -> [u64; 2] {
+    let mut part = part_by_number(header::vmd_bone_interpolation, file, opening, i);
+    if altered(Alter::InterpolationMoved) {
+        part[0] = part[0].saturating_sub(1);
+    }
+    part
+}
+
+pub fn camera_interpolation(file: &[u8], opening: &Opening, i: usize) -> [u64; 2] {
+    part_by_number(header::vmd_camera_interpolation, file, opening, i)
+}
+
+pub fn ik_name(file: &[u8], opening: &Opening, scratch: &[u64], i: usize, j: usize) -> [u64; 2] {
+    let mut part = [u64::MAX; 2];
+    unsafe {
+        header::vmd_ik_name(
+            pointer(file),
+            file.len(),
+            opening.counts.as_ptr(),
+            opening.places.as_ptr(),
+            pointer(scratch),
+            scratch.len(),
+            i,
+            j,
+            part.as_mut_ptr(),
+        )
+    };
+    part
+}
+
+pub fn model_name(file: &[u8]) -> [u64; 2] {
+    let mut part = [u64::MAX; 2];
+    unsafe { header::vmd_model_name(pointer(file), file.len(), part.as_mut_ptr()) };
+    part
+}
+
+// ---- export and joining
+
+pub fn export_size(file: &[u8], size: &mut u64) -> u32 {
+    let answer = unsafe { header::vmd_export_size(pointer(file), file.len(), size) };
+    if altered(Alter::ExportSize) && answer == 0 {
+        *size += 1;
+    }
+    answer
+}
+
+pub fn export_animation(file: &[u8], out: &mut [u8], written: &mut u64) -> u32 {
+    let answer = unsafe { header::vmd_export_animation(pointer(file), file.len(), pointer_mut(out), out.len(), written) };
+    alter_export(answer, out, written);
+    answer
+}
+
+fn alter_export(answer: u32, out: &mut [u8], written: &mut u64) {
+    let end = *written as usize;
+    if altered(Alter::ExportInRefusal) && answer != 0 {
+        out.iter_mut().take(1).for_each(|byte| *byte ^= 1);
+    } else if answer != 0 {
+    } else if altered(Alter::ExportByte) {
+        out[end - 1] ^= 1;
+    } else if altered(Alter::ExportPastItsEnd) && end < out.len() {
+        out[end] ^= 1;
+    } else if altered(Alter::ExportIkStatesDropped) {
+        let mut take = original::read(&out[..end]).expect("an export is read back");
+        take.property_frames.iter_mut().for_each(|frame| frame.ik_states.clear());
+        let bytes = original::export(&take);
+        out[..bytes.len()].copy_from_slice(&bytes);
+        *written = bytes.len() as u64;
+    }
+}
+
+pub fn join_size(first: &[u8], second: &[u8], size: &mut u64) -> u32 {
+    unsafe { header::vmd_join_size(pointer(first), first.len(), pointer(second), second.len(), size) }
+}
+
+pub fn join_animations(first: &[u8], second: &[u8], out: &mut [u8], written: &mut u64) -> u32 {
+    let (a, b) = if altered(Alter::JoinTurned) { (second, first) } else { (first, second) };
+    unsafe { header::vmd_join_animations(pointer(a), a.len(), pointer(b), b.len(), pointer_mut(out), out.len(), written) }
+}
+
+/// Which file the joined model name is in, where it begins there, and its length.
+pub fn joined_model(first: &[u8], second: &[u8]) -> [u64; 3] {
+    let mut part = [u64::MAX; 3];
+    unsafe { header::vmd_joined_model(pointer(first), first.len(), pointer(second), second.len(), part.as_mut_ptr()) };
+    if altered(Alter::JoinModelName) {
+        part[0] ^= 1;
+    }
+    part
+}
+
+// ---- building
+
+pub fn first_fault(name: &[u8]) -> usize {
+    let place = unsafe { header::vmd_first_fault(pointer(name), name.len()) };
+    if altered(Alter::NameTest) && name.contains(&0x7f) {
+        return name.len();
+    }
+    place
+}
+
+#[rustfmt::skip]
+pub fn build_size(p: &Parts, c: Columns, size: &mut u64) -> u32 {
+    unsafe {
+        header::vmd_build_size(
+            pointer(&p.model_name), p.model_name.len(),
+            pointer(&p.bone_name_bytes), p.bone_name_bytes.len(),
+            pointer(&p.bone_name_ends), p.bone_name_ends.len(),
+            pointer(&p.morph_name_bytes), p.morph_name_bytes.len(),
+            pointer(&p.morph_name_ends), p.morph_name_ends.len(),
+            pointer(&p.camera_frames), p.camera_frames.len(),
+            pointer(&p.light_frames), p.light_frames.len(),
+            pointer(&p.self_shadow_frames), p.self_shadow_frames.len(),
+            pointer(&p.property_frames), p.property_frames.len(),
+            pointer(c.bone_name_indices), c.bone_name_indices.len(),
+            pointer(c.bone_frames), c.bone_frames.len(),
+            pointer(c.bone_translations_xyz), c.bone_translations_xyz.len(),
+            pointer(c.bone_rotations_xyzw), c.bone_rotations_xyzw.len(),
+            pointer(c.bone_interpolations), c.bone_interpolations.len(),
+            pointer(c.morph_name_indices), c.morph_name_indices.len(),
+            pointer(c.morph_frames), c.morph_frames.len(),
+            pointer(c.morph_weights), c.morph_weights.len(),
+            size,
+        )
+    }
+}
+
+#[rustfmt::skip]
+pub fn build_animation_from_parts(p: &Parts, c: Columns, out: &mut [u8], written: &mut u64) -> u32 {
+    let answer = unsafe {
+        header::vmd_build_animation_from_parts(
+            pointer(&p.model_name), p.model_name.len(),
+            pointer(&p.bone_name_bytes), p.bone_name_bytes.len(),
+            pointer(&p.bone_name_ends), p.bone_name_ends.len(),
+            pointer(&p.morph_name_bytes), p.morph_name_bytes.len(),
+            pointer(&p.morph_name_ends), p.morph_name_ends.len(),
+            pointer(&p.camera_frames), p.camera_frames.len(),
+            pointer(&p.light_frames), p.light_frames.len(),
+            pointer(&p.self_shadow_frames), p.self_shadow_frames.len(),
+            pointer(&p.property_frames), p.property_frames.len(),
+            pointer(c.bone_name_indices), c.bone_name_indices.len(),
+            pointer(c.bone_frames), c.bone_frames.len(),
+            pointer(c.bone_translations_xyz), c.bone_translations_xyz.len(),
+            pointer(c.bone_rotations_xyzw), c.bone_rotations_xyzw.len(),
+            pointer(c.bone_interpolations), c.bone_interpolations.len(),
+            pointer(c.morph_name_indices), c.morph_name_indices.len(),
+            pointer(c.morph_frames), c.morph_frames.len(),
+            pointer(c.morph_weights), c.morph_weights.len(),
+            pointer_mut(out), out.len(), written,
+        )
+    };
+    alter_build(answer, out, written)
+}
+
+fn alter_build(answer: u32, out: &mut [u8], written: &mut u64) -> u32 {
+    if altered(Alter::BuildRefusal) && answer == 12 {
+        return 8;
+    }
+    if altered(Alter::BuildInRefusal) && answer != 0 {
+        out.iter_mut().take(1).for_each(|byte| *byte ^= 1);
+    }
+    if altered(Alter::BuildByte) && answer == 0 {
+        out[*written as usize - 1] ^= 1;
+    }
+    answer
+}

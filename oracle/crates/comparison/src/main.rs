@@ -1,0 +1,129 @@
+//! The proved library and the original Rust on the same inputs, every result compared.
+//!
+//!     compare N SEED          N files, N part sets, N / 10 joins and N / 10 names, beside the fixed inputs
+//!     compare self-test       alters one result after another: each has to be reported
+
+mod alter;
+mod check;
+mod files;
+mod header;
+mod huge;
+mod joins;
+mod lent;
+mod library;
+mod name_test;
+mod parts;
+mod runs;
+mod tally;
+
+use alter::{alter, Alter, ALTERATIONS};
+use std::process::ExitCode;
+use std::time::Instant;
+use tally::Tally;
+
+fn main() -> ExitCode {
+    let arguments: Vec<String> = std::env::args().skip(1).collect();
+    let numbers: Vec<Option<u64>> = arguments.iter().map(|argument| argument.replace('_', "").parse().ok()).collect();
+    match (arguments.first().map(String::as_str), numbers.as_slice()) {
+        (Some("self-test"), [_]) => self_test(),
+        (_, [Some(cases), Some(seed)]) => compare(*cases, *seed),
+        _ => {
+            eprintln!("usage: compare N SEED, or compare self-test");
+            ExitCode::from(2)
+        }
+    }
+}
+
+fn timed<T>(what: &str, run: impl FnOnce() -> T) -> T {
+    let begun = Instant::now();
+    let result = run();
+    eprintln!("{what}: {:.1} s", begun.elapsed().as_secs_f64());
+    result
+}
+
+fn compare(cases: u64, seed: u64) -> ExitCode {
+    println!("seed {seed}");
+    let (names, short_names, random_names) = timed("names", || runs::names(cases / 10, seed));
+    names.print();
+    print_names("one and two bytes", &short_names);
+    print_names("random", &random_names);
+    let (files, file_check) = timed("files", || runs::files(cases, seed));
+    files.print();
+    print_lights(&file_check);
+    let joins = timed("joins", || runs::joins(cases / 10, seed));
+    joins.print();
+    let (parts, parts_check) = timed("parts", || runs::parts(cases, seed));
+    parts.print();
+    print_outside(&parts_check.outside);
+    let huge = timed("counts at 32 bits", huge::run);
+    huge.print();
+    let tallies = [&names, &files, &joins, &parts, &huge];
+    let differences: usize = tallies.iter().map(|tally| tally.differences.len()).sum();
+    println!("{} cases, {differences} differences", tallies.iter().map(|tally| tally.cases()).sum::<u64>());
+    if differences == 0 {
+        ExitCode::SUCCESS
+    } else {
+        ExitCode::FAILURE
+    }
+}
+
+fn print_names(label: &str, tally: &name_test::NameTally) {
+    println!("  {label}, inside the domain: {} accepted and {} refused by both", tally.accepted, tally.refused);
+    println!(
+        "    a pair without a character: the original answers otherwise for {}, alike for {}",
+        tally.pairs_other, tally.pairs_alike
+    );
+    println!("    a byte order mark: the original answers otherwise for {}, alike for {}", tally.marks_other, tally.marks_alike);
+}
+
+fn print_lights(check: &files::FileCheck) {
+    println!("  {} records and IK states compared", check.records);
+    let nans = &check.lights;
+    println!("  NaNs of lights through the call with f32 fields: {}, of these {} with other bits", nans.seen, nans.other_bits);
+    if let Some((ours, theirs)) = nans.first {
+        println!("    the first: {ours:#010x} for {theirs:#010x}");
+    }
+}
+
+fn print_outside(tally: &parts::OutsideTally) {
+    println!(
+        "  {} of the sets have a name outside the domain; the original gives the same answer for {}",
+        tally.sets, tally.same_answer
+    );
+    for ((reason, ours, theirs), (sets, name)) in &tally.other_answer {
+        println!("    {sets}: {reason:?}, {ours} here and {theirs} by the original; the shortest name {name:02x?}");
+    }
+}
+
+// ---- self-test
+
+const SELF_TEST_CASES: u64 = 3000;
+
+fn tallies() -> [Tally; 4] {
+    [
+        runs::names(SELF_TEST_CASES, 1).0,
+        runs::files(SELF_TEST_CASES, 1).0,
+        runs::joins(SELF_TEST_CASES, 1),
+        runs::parts(SELF_TEST_CASES, 1).0,
+    ]
+}
+
+fn self_test() -> ExitCode {
+    let mut unreported = 0;
+    for what in ALTERATIONS {
+        alter(what);
+        let tallies = tallies();
+        let differences: Vec<&String> = tallies.iter().flat_map(|tally| &tally.differences).collect();
+        let first = differences.first().and_then(|text| text.lines().next()).unwrap_or("");
+        println!("{what:?}: {} differences; {first}", differences.len());
+        unreported += differences.is_empty() as usize;
+    }
+    alter(Alter::Nothing);
+    let unaltered: usize = tallies().iter().map(|tally| tally.differences.len()).sum();
+    println!("{} alterations, {unreported} not reported; {unaltered} differences without one", ALTERATIONS.len());
+    if unreported + unaltered == 0 {
+        ExitCode::SUCCESS
+    } else {
+        ExitCode::FAILURE
+    }
+}

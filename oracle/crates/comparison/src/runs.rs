@@ -1,0 +1,181 @@
+//! The runs: fixed inputs first, then N random ones from a seed.
+
+use crate::files::FileCheck;
+use crate::joins;
+use crate::lent::Output;
+use crate::name_test::NameTally;
+use crate::parts::PartsCheck;
+use crate::tally::Tally;
+use oracle::files::{self, file_kind, file_of, FileKind, FILE_KINDS};
+use oracle::names;
+use oracle::part_sets::{self, set_kind, set_of, SetKind, FAULTS, SET_KINDS};
+use oracle::parts::Parts;
+use oracle::random::Random;
+
+/// Random inputs of each run come from streams of their own.
+const FILES: u64 = 1 << 60;
+const JOINS: u64 = 2 << 60;
+const PARTS: u64 = 3 << 60;
+const NAMES: u64 = 4 << 60;
+const FIXED: u64 = 5 << 60;
+
+fn hex(bytes: &[u8]) -> String {
+    bytes.iter().map(|byte| format!("{byte:02x}")).collect()
+}
+
+// ---- files
+
+const DOCUMENT_01: &str = "document 01's takes";
+const EVERY_PREFIX: &str = "every prefix of a take of six sections";
+const EVERY_CHANGE: &str = "every change of one byte of a take";
+const LARGE_COUNTS: &str = "counts that do not fit";
+
+pub fn files(cases: u64, seed: u64) -> (Tally, FileCheck) {
+    let fixed = [DOCUMENT_01, EVERY_PREFIX, EVERY_CHANGE, LARGE_COUNTS];
+    let labels: Vec<&str> = fixed.into_iter().chain(FILE_KINDS.map(FileKind::label)).collect();
+    let (mut tally, mut check) = (Tally::new("Files: opening, records, names, export", &labels), FileCheck::default());
+    for (label, file) in fixed_files(seed) {
+        tally.count(label, check.check(&file), || hex(&file));
+    }
+    for case in 0..cases {
+        let mut random = Random::for_case(seed, FILES + case);
+        let kind = file_kind(&mut random);
+        let file = file_of(kind, &mut random);
+        tally.count(kind.label(), check.check(&file), || format!("random file {case}: {}", hex(&file)));
+    }
+    (tally, check)
+}
+
+fn fixed_files(seed: u64) -> impl Iterator<Item = (&'static str, Vec<u8>)> {
+    let mut random = Random::for_case(seed, FIXED);
+    let whole = files::full_pieces(2, &mut random).file();
+    let small = files::full_pieces(1, &mut random).file();
+    let labelled = |label: &'static str, files: Vec<Vec<u8>>| files.into_iter().map(move |file| (label, file));
+    labelled(DOCUMENT_01, files::takes_of_document_01())
+        .chain(labelled(EVERY_PREFIX, files::prefixes(&whole).collect()))
+        .chain(labelled(EVERY_CHANGE, files::single_byte_changes(&small).collect()))
+        .chain(labelled(LARGE_COUNTS, files::large_counts()))
+}
+
+// ---- joins
+
+const EACH_WITH_EACH: &str = "document 01's takes, each with each";
+const TWO_WHOLE: &str = "two whole takes";
+const WITH_ITSELF: &str = "a take with itself";
+const WITH_EMPTY: &str = "a take with the empty take";
+const ANY_TWO: &str = "any two files";
+
+pub fn joins(cases: u64, seed: u64) -> Tally {
+    let labels = [EACH_WITH_EACH, TWO_WHOLE, WITH_ITSELF, WITH_EMPTY, ANY_TWO];
+    let title = "Joins: expected from the original's export of the concatenated records";
+    let (mut tally, mut output) = (Tally::new(title, &labels), Output::default());
+    let fixed = files::takes_of_document_01();
+    for (first, second) in fixed.iter().flat_map(|first| fixed.iter().map(move |second| (first, second))) {
+        tally.count(EACH_WITH_EACH, joins::check(first, second, &mut output), || format!("{} and {}", hex(first), hex(second)));
+    }
+    for case in 0..cases {
+        let mut random = Random::for_case(seed, JOINS + case);
+        let (label, first, second) = pair(&mut random);
+        tally.count(label, joins::check(&first, &second, &mut output), || {
+            format!("random join {case}: {} and {}", hex(&first), hex(&second))
+        });
+    }
+    tally
+}
+
+fn pair(random: &mut Random) -> (&'static str, Vec<u8>, Vec<u8>) {
+    match random.below(4) {
+        0 => {
+            let kind = file_kind(random);
+            (ANY_TWO, file_of(kind, random), file_of(file_kind(random), random))
+        }
+        1 => {
+            let file = files::pieces(2, random).file();
+            (WITH_ITSELF, file.clone(), file)
+        }
+        2 => {
+            let (empty, file) = (files::Pieces::empty().first_sections(1), files::pieces(2, random).file());
+            if random.one_in(2) {
+                (WITH_EMPTY, file, empty)
+            } else {
+                (WITH_EMPTY, empty, file)
+            }
+        }
+        _ => (TWO_WHOLE, files::pieces(3, random).file(), files::pieces(3, random).file()),
+    }
+}
+
+// ---- parts
+
+const NO_PARTS: &str = "no parts";
+const EACH_FAULT: &str = "each fault alone";
+const EACH_PAIR: &str = "each fault with each";
+
+pub fn parts(cases: u64, seed: u64) -> (Tally, PartsCheck) {
+    let labels: Vec<&str> = [NO_PARTS, EACH_FAULT, EACH_PAIR].into_iter().chain(SET_KINDS.map(SetKind::label)).collect();
+    let (mut tally, mut check) = (Tally::new("Parts: building", &labels), PartsCheck::default());
+    for (label, set) in fixed_sets(seed) {
+        tally.count(label, check.check(&set), || shown(&set));
+    }
+    for case in 0..cases {
+        let mut random = Random::for_case(seed, PARTS + case);
+        let kind = set_kind(&mut random);
+        let set = set_of(kind, &mut random);
+        tally.count(kind.label(), check.check(&set), || format!("random set {case}: {}", shown(&set)));
+    }
+    (tally, check)
+}
+
+fn fixed_sets(seed: u64) -> impl Iterator<Item = (&'static str, Parts)> {
+    let mut random = Random::for_case(seed, FIXED + 1);
+    let mut sets = vec![(NO_PARTS, Parts::default())];
+    for fault in FAULTS {
+        sets.extend((0..8).map(|_| (EACH_FAULT, part_sets::with(&[fault], &mut random))));
+    }
+    for first in FAULTS {
+        for second in FAULTS {
+            sets.extend((0..4).map(|_| (EACH_PAIR, part_sets::with(&[first, second], &mut random))));
+        }
+    }
+    sets.into_iter()
+}
+
+fn shown(p: &Parts) -> String {
+    let floats = |column: &[f32]| column.iter().map(|value| format!("{:08x} ", value.to_bits())).collect::<String>();
+    format!(
+        "model {} bone names {} {:?} morph names {} {:?} cameras {} lights {} self-shadows {} properties {} bones {:?} {:?} {}/ {}/ {} morphs {:?} {:?} {}",
+        hex(&p.model_name), hex(&p.bone_name_bytes), p.bone_name_ends, hex(&p.morph_name_bytes), p.morph_name_ends,
+        hex(&p.camera_frames), hex(&p.light_frames), hex(&p.self_shadow_frames), hex(&p.property_frames),
+        p.bone_name_indices, p.bone_frames, floats(&p.bone_translations_xyz), floats(&p.bone_rotations_xyzw), hex(&p.bone_interpolations),
+        p.morph_name_indices, p.morph_frames, floats(&p.morph_weights),
+    )
+}
+
+// ---- names
+
+/// The second is of every name of one and two bytes, the third of random ones.
+pub fn names(cases: u64, seed: u64) -> (Tally, NameTally, NameTally) {
+    let mut tally = Tally::new("Names: the test of a name's bytes", &[]);
+    let (mut short, mut random_names) = (NameTally::default(), NameTally::default());
+    let mut count = |label: &str, names: &mut NameTally, name: &[u8]| {
+        tally.count(label, names.check(name), || hex(name));
+    };
+    for a in 1..=255u8 {
+        count("every name of one byte", &mut short, &[a]);
+        (1..=255u8).for_each(|b| count("every name of two bytes", &mut short, &[a, b]));
+    }
+    for case in 0..cases {
+        let name = random_name(&mut Random::for_case(seed, NAMES + case));
+        count("random names of up to 20 bytes", &mut random_names, &name);
+    }
+    (tally, short, random_names)
+}
+
+fn random_name(random: &mut Random) -> Vec<u8> {
+    match random.below(4) {
+        0 => names::good_name(random.below(21), random),
+        1 => names::bad_name(20, random),
+        2 => names::outside_name(20, random),
+        _ => (0..random.below(8)).map(|_| 1 + random.below(255) as u8).collect(),
+    }
+}

@@ -1,0 +1,8 @@
+//! What the original Rust answers, and the inputs that it is asked about.
+
+pub mod files;
+pub mod names;
+pub mod original;
+pub mod part_sets;
+pub mod parts;
+pub mod random;

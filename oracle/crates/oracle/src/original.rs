@@ -1,0 +1,138 @@
+//! The original's answers, its errors as document 01's numbers.
+
+use crate::files::{Pieces, Section, SIZES};
+use crate::parts::{property_frames_in, Columns, Parts};
+use mmd_anim_format::error::ImportError;
+pub use mmd_anim_format::vmd::VmdParsedAnimation;
+use mmd_anim_format::vmd::{
+    build_vmd_animation_from_parts, export_vmd_animation, parse_vmd_animation, VmdPartsDescriptor, VmdPartsInput,
+    VmdPartsNameEntry,
+};
+
+pub const ENDS_EARLY: u32 = 1;
+pub const MAGIC_DIFFERS: u32 = 2;
+pub const PARTS_NOT_WHOLE: u32 = 5;
+pub const OUTPUT_TOO_SHORT: u32 = 13;
+
+pub fn read(file: &[u8]) -> Result<VmdParsedAnimation, u32> {
+    parse_vmd_animation(file).map_err(|error| match error {
+        ImportError::UnexpectedEof(_) => ENDS_EARLY,
+        ImportError::InvalidVmdMagic => MAGIC_DIFFERS,
+        other => panic!("document 01 has no number for {other:?}"),
+    })
+}
+
+pub fn export(take: &VmdParsedAnimation) -> Vec<u8> {
+    export_vmd_animation(take)
+}
+
+pub fn export_file(file: &[u8]) -> Result<Vec<u8>, u32> {
+    read(file).map(|take| export(&take))
+}
+
+/// Document 01's join of two takes that the original read, as the original writes it.
+pub fn join_files(first: &[u8], second: &[u8]) -> Result<Vec<u8>, u32> {
+    let (mut joined, second) = (read(first)?, read(second)?);
+    if joined.metadata.model_name_bytes.is_empty() {
+        joined.metadata = second.metadata;
+    }
+    joined.bone_frames.extend(second.bone_frames);
+    joined.morph_frames.extend(second.morph_frames);
+    joined.camera_frames.extend(second.camera_frames);
+    joined.light_frames.extend(second.light_frames);
+    joined.self_shadow_frames.extend(second.self_shadow_frames);
+    joined.property_frames.extend(second.property_frames);
+    Ok(export(&joined))
+}
+
+/// Bytes that are to be written into an output of this many bytes.
+pub fn fitted(bytes: Result<Vec<u8>, u32>, out_len: usize) -> Result<Vec<u8>, u32> {
+    bytes.and_then(|bytes| if bytes.len() <= out_len { Ok(bytes) } else { Err(OUTPUT_TOO_SHORT) })
+}
+
+// ---- building
+
+/// What the original builds and exports from parts; refusal 5 by document 01.
+pub fn build(parts: &Parts) -> Result<Vec<u8>, u32> {
+    if parts.are_whole() {
+        build_whole(parts).map(|take| export(&take))
+    } else {
+        Err(PARTS_NOT_WHOLE)
+    }
+}
+
+pub fn build_whole(parts: &Parts) -> Result<VmdParsedAnimation, u32> {
+    build_columns(parts, parts.columns())
+}
+
+/// The same with columns from elsewhere.
+pub fn build_columns(parts: &Parts, columns: Columns) -> Result<VmdParsedAnimation, u32> {
+    let input = VmdPartsInput {
+        descriptor: descriptor(parts),
+        bone_name_indices: columns.bone_name_indices,
+        bone_frames: columns.bone_frames,
+        bone_translations_xyz: columns.bone_translations_xyz,
+        bone_rotations_xyzw: columns.bone_rotations_xyzw,
+        bone_interpolations: columns.bone_interpolations,
+        morph_name_indices: columns.morph_name_indices,
+        morph_frames: columns.morph_frames,
+        morph_weights: columns.morph_weights,
+    };
+    build_vmd_animation_from_parts(input).map_err(|message| number_of(&message))
+}
+
+/// The original says what is wrong in words.
+fn number_of(message: &str) -> u32 {
+    match message {
+        "camera value is not finite" | "light value is not finite" => 8,
+        "bone value is not finite" | "morph weight is not finite" => 8,
+        "invalid self-shadow frame" => 9,
+        "bone SoA lengths do not match" | "morph SoA lengths do not match" => 10,
+        "bone name index out of range" | "morph name index out of range" => 12,
+        _ if message.ends_with(" raw bytes") => 6,
+        _ if message.ends_with(" CP932 bytes") => 7,
+        _ if message.ends_with(" section count exceeds u32") => 11,
+        _ => panic!("document 01 has no number for: {message}"),
+    }
+}
+
+/// "with the right schema and all text names empty"; records as the original's reader reads them.
+fn descriptor(parts: &Parts) -> VmdPartsDescriptor {
+    let records = records_of(parts);
+    VmdPartsDescriptor {
+        schema: "mmd-anim-vmd-parts".to_owned(),
+        version: 1,
+        model_name: String::new(),
+        model_name_bytes: parts.model_name.clone(),
+        bone_names: entries(parts.bone_names()),
+        morph_names: entries(parts.morph_names()),
+        camera_frames: records.camera_frames,
+        light_frames: records.light_frames,
+        self_shadow_frames: records.self_shadow_frames,
+        property_frames: records.property_frames,
+    }
+}
+
+fn entries<'a>(names: impl Iterator<Item = &'a [u8]>) -> Vec<VmdPartsNameEntry> {
+    names.map(|name| VmdPartsNameEntry { name: String::new(), name_bytes: name.to_vec() }).collect()
+}
+
+/// The records of whole parts, read by the original from a file of these sections.
+fn records_of(parts: &Parts) -> VmdParsedAnimation {
+    let section = |bytes: &Vec<u8>, count: usize| Section { count: count as u32, bytes: bytes.clone() };
+    let mut pieces = Pieces::empty();
+    pieces.sections[2] = section(&parts.camera_frames, parts.camera_frames.len() / SIZES[2]);
+    pieces.sections[3] = section(&parts.light_frames, parts.light_frames.len() / SIZES[3]);
+    pieces.sections[4] = section(&parts.self_shadow_frames, parts.self_shadow_frames.len() / SIZES[4]);
+    pieces.sections[5] = section(&parts.property_frames, property_frames_in(&parts.property_frames).unwrap());
+    let mut records = read(&pieces.file()).expect("whole records are read");
+    let counts = &records.metadata.counts;
+    assert_eq!(
+        [counts.cameras, counts.lights, counts.self_shadows, counts.properties],
+        [2, 3, 4, 5].map(|i| pieces.sections[i].count as usize)
+    );
+    for state in records.property_frames.iter_mut().flat_map(|frame| &mut frame.ik_states) {
+        state.bone_name.clear();
+    }
+    records
+}

@@ -1,0 +1,13 @@
+#!/usr/bin/env bash
+# Writes the sample of the original's answers anew: the cases that crates/vmd_replay reads, and the examples of
+# crates/vmd_answers. The same sources give the same files.
+#
+#   oracle/samples.sh [SOURCES]
+#
+# SOURCES is as in oracle/build.sh.
+set -euo pipefail
+root=$(cd "$(dirname "$0")/.." && pwd)
+"$root/oracle/build.sh" samples "$@"
+cd "$root"
+mkdir -p crates/vmd_replay
+target/oracle/build/release/samples crates/vmd_replay/stdin crates/vmd_answers
