@@ -203,7 +203,9 @@ static void try_built(const struct parts *parts, const struct bytes *expected)
 /* ---- a good set of parts, and the take that it means */
 
 /* Good names: single bytes of every kind, pairs, a full field, and one that no record has. */
-static const char *const bone_names[MOST_NAMES] = {"center", "\x83\x41\xB1", "\x80\xA1\xDF\x9F\xFC\xE0\x40 is full", "unused"};
+static const char *const bone_names[MOST_NAMES] = {
+    "center", "\x83\x41\xB1", "\x80\xA1\xDF\x9F\xFC\xE0\x40 is full", "unused"
+};
 static const char *const morph_names[3] = {"", "smile", "\xFC\x7E\x81\x80"};
 static const uint32_t bone_indices[N_BONES] = {1, 0, 2, 0}, morph_indices[N_MORPHS] = {2, 0, 1};
 
@@ -635,8 +637,8 @@ static void faults_of_records(int section, int n, int size, int first, int float
         for (k = 0; k < floats; k++) {
             ++things;
             for (v = 0; v < KINDS; v++)
-                fault(8, things, record_word, section, i * size + first + 4 * k, not_finite[v], "%s %d, float %d is 0x%08X", what,
-                      i, k, not_finite[v]);
+                fault(8, things, record_word, section, i * size + first + 4 * k, not_finite[v],
+                      "%s %d, float %d is 0x%08X", what, i, k, not_finite[v]);
         }
 }
 
@@ -646,8 +648,8 @@ static void faults_of_self_shadows(void)
     for (i = 0; i < N_SELF_SHADOWS; i++) {
         ++things;
         for (v = 0; v < KINDS; v++)
-            fault(9, things, record_word, VMD_SELF_SHADOWS, 9 * i + 5, not_finite[v], "self-shadow %d, distance is 0x%08X", i,
-                  not_finite[v]);
+            fault(9, things, record_word, VMD_SELF_SHADOWS, 9 * i + 5, not_finite[v],
+                  "self-shadow %d, distance is 0x%08X", i, not_finite[v]);
         ++things;
         fault(9, things, record_byte, VMD_SELF_SHADOWS, 9 * i + 4, 3, "self-shadow %d, mode 3", i);
         fault(9, things, record_byte, VMD_SELF_SHADOWS, 9 * i + 4, 255, "self-shadow %d, mode 255", i);

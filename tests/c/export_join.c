@@ -246,14 +246,14 @@ static void empty_takes_on_either_side(void)
     size_t k, e;
     for (k = 0; k < n_samples; k++)
         for (e = 0; e < 2; e++) {
+            const struct bytes *file = &samples[k].file;
             struct bytes export;
             uint64_t len = 0;
             trial("%s joined with %s", samples[k].name, samples[e].name);
-            expect_number("export", vmd_export_animation(samples[k].file.at, samples[k].file.len, export.at, sizeof export.at,
-                                                         &len), VMD_OK);
+            expect_number("export", vmd_export_animation(file->at, file->len, export.at, sizeof export.at, &len), VMD_OK);
             export.len = len;
-            join_into(&samples[k].file, &samples[e].file, VMD_OK, &export, export.len);
-            join_into(&samples[e].file, &samples[k].file, VMD_OK, &export, export.len);
+            join_into(file, &samples[e].file, VMD_OK, &export, export.len);
+            join_into(&samples[e].file, file, VMD_OK, &export, export.len);
         }
 }
 
@@ -432,7 +432,8 @@ static void joined_models(void)
     trial("model names of files whose header is refused");
     {
         uint64_t part[3] = {7, 7, 7};
-        static const uint8_t good[50] = "Vocaloid Motion Data 0002\0\0\0\0\0name", bad[50] = "Vocaloid Motion Data 0003\0\0\0\0\0name";
+        static const uint8_t good[50] = "Vocaloid Motion Data 0002\0\0\0\0\0name";
+        static const uint8_t bad[50] = "Vocaloid Motion Data 0003\0\0\0\0\0name";
         vmd_joined_model(bad, 50, good, 50, part);
         expect_number("which", part[0], 1);
         expect_number("place", part[1], 30);

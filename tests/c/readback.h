@@ -82,7 +82,8 @@ static inline void field_by_field(const struct take *t, const uint8_t *file, siz
         expect_number("property's visible", record[1], r->visible != 0);
         expect_number("property's IK count", record[2], r->n_states);
         for (j = 0; j < r->n_states; j++) {
-            expect_number("IK state", vmd_ik_state(file, len, counts, places, scratch, t->counts[5], i, j, &enabled), VMD_OK);
+            expect_number("IK state", vmd_ik_state(file, len, counts, places, scratch, t->counts[5], i, j, &enabled),
+                          VMD_OK);
             expect_number("IK enabled", enabled, r->states[j].enabled != 0);
             vmd_ik_name(file, len, counts, places, scratch, t->counts[5], i, j, part);
             expect_name("IK name", file, part, &r->states[j].name);

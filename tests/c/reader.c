@@ -132,8 +132,8 @@ static void fetch_light(const struct view *v, size_t i)
     size_t k;
     for (k = 0; r != NULL && k < 7; k++)
         record[k] = u32_at(r + 4 * k);
-    expect_fetched("light_frame_bits", vmd_light_frame_bits(VIEW(v), i, lend_unwritten(&lent_slot, sizeof record)), r, record,
-                   sizeof record);
+    expect_fetched("light_frame_bits", vmd_light_frame_bits(VIEW(v), i, lend_unwritten(&lent_slot, sizeof record)), r,
+                   record, sizeof record);
 
     number = vmd_light_frame(VIEW(v), i, lend_unwritten(&lent_slot, 4), values);
     expect_fetched("light_frame", number, r, record, 4);
@@ -174,8 +174,8 @@ static void fetch_property(const struct view *v, size_t i)
         record[1] = r[4] != 0;
         record[2] = u32_at(r + 5);
     }
-    expect_fetched("property_frame", vmd_property_frame(VIEW(v), SCRATCH(v), i, lend_unwritten(&lent_slot, sizeof record)), r,
-                   record, sizeof record);
+    expect_fetched("property_frame", vmd_property_frame(VIEW(v), SCRATCH(v), i, lend_unwritten(&lent_slot, sizeof record)),
+                   r, record, sizeof record);
 }
 
 static void fetch_state(const struct view *v, size_t i, size_t j)

@@ -1,0 +1,215 @@
+//! Takes to measure with, written without the library.
+use vmd::Parts;
+
+/// What a take has, by bytes.
+#[derive(Clone, Copy, PartialEq)]
+pub enum Kind {
+    Bones,
+    Mixed,
+    Morphs,
+}
+
+impl Kind {
+    pub const ALL: [Kind; 3] = [Kind::Bones, Kind::Mixed, Kind::Morphs];
+
+    pub fn name(self) -> &'static str {
+        match self {
+            Kind::Bones => "bones",
+            Kind::Mixed => "60% bones, 30% morphs, 10% cameras",
+            Kind::Morphs => "morphs",
+        }
+    }
+
+    /// How many bones, morphs and cameras make up so many bytes.
+    fn counts(self, size: usize) -> [usize; 3] {
+        let size = size - 74;
+        match self {
+            Kind::Bones => [size / 111, 0, 0],
+            Kind::Mixed => [size * 6 / 10 / 111, size * 3 / 10 / 23, size / 10 / 61],
+            Kind::Morphs => [0, size / 23, 0],
+        }
+    }
+}
+
+/// What the 15 bytes of a name's field hold.
+#[derive(Clone, Copy, PartialEq)]
+pub enum Names {
+    Short,
+    Full,
+    Padded,
+    Garbage,
+}
+
+impl Names {
+    pub const ALL: [Names; 4] = [Names::Short, Names::Full, Names::Padded, Names::Garbage];
+
+    pub fn name(self) -> &'static str {
+        match self {
+            Names::Short => "2 bytes",
+            Names::Full => "15 bytes",
+            Names::Padded => "4 to 10 bytes, zeros",
+            Names::Garbage => "4 to 10 bytes, a zero, garbage",
+        }
+    }
+
+    fn len(self, n: usize) -> usize {
+        match self {
+            Names::Short => 2,
+            Names::Full => 15,
+            Names::Padded | Names::Garbage => 4 + n % 7,
+        }
+    }
+
+    /// Name `n` of a table.
+    fn bytes(self, n: usize) -> Vec<u8> {
+        (0..self.len(n)).map(|k| b'A' + ((n >> (2 * k)) % 26) as u8).collect()
+    }
+
+    /// Its field in a file.
+    fn field(self, n: usize) -> [u8; 15] {
+        let name = self.bytes(n);
+        let mut field = [if self == Names::Garbage { 0xC5 } else { 0 }; 15];
+        if name.len() < 15 {
+            field[name.len()] = 0;
+        }
+        field[..name.len()].copy_from_slice(&name);
+        field
+    }
+}
+
+/// How many names a take of so many records has.
+fn table(records: usize) -> usize {
+    records.clamp(1, 97)
+}
+
+/// Numbers that differ from record to record, and floats that are finite.
+struct Random(u32);
+
+impl Random {
+    fn next(&mut self) -> u32 {
+        self.0 ^= self.0 << 13;
+        self.0 ^= self.0 >> 17;
+        self.0 ^= self.0 << 5;
+        self.0
+    }
+
+    fn float(&mut self) -> f32 {
+        (self.next() % 20_000) as f32 / 64.0 - 150.0
+    }
+}
+
+/// Parts that own their columns.
+#[derive(Default)]
+pub struct Columns {
+    pub name_bytes: Vec<u8>,
+    pub name_ends: Vec<u32>,
+    pub cameras: Vec<u8>,
+    pub bone_indices: Vec<u32>,
+    pub bone_frames: Vec<u32>,
+    pub translations: Vec<f32>,
+    pub rotations: Vec<f32>,
+    pub interpolations: Vec<u8>,
+    pub morph_indices: Vec<u32>,
+    pub morph_frames: Vec<u32>,
+    pub weights: Vec<f32>,
+}
+
+/// A take as a file, as two halves to be joined, and as parts.
+pub struct Material {
+    pub file: Vec<u8>,
+    pub first: Vec<u8>,
+    pub second: Vec<u8>,
+    pub columns: Columns,
+}
+
+impl Material {
+    pub fn new(kind: Kind, names: Names, size: usize) -> Material {
+        let columns = columns(kind.counts(size), names);
+        let half = self::columns(kind.counts(size.div_ceil(2)), names);
+        let first = file(&half, names);
+        Material { file: file(&columns, names), second: first.clone(), first, columns }
+    }
+
+    /// The cameras alone.
+    #[cfg(feature = "original")]
+    pub fn camera_file(&self) -> Vec<u8> {
+        file(&Columns { cameras: self.columns.cameras.clone(), ..Default::default() }, Names::Short)
+    }
+
+    pub fn parts(&self) -> Parts<'_> {
+        let c = &self.columns;
+        Parts {
+            model_name: b"dancer",
+            bone_name_bytes: &c.name_bytes,
+            bone_name_ends: &c.name_ends,
+            morph_name_bytes: &c.name_bytes,
+            morph_name_ends: &c.name_ends,
+            camera_frames: &c.cameras,
+            bone_name_indices: &c.bone_indices,
+            bone_frames: &c.bone_frames,
+            bone_translations_xyz: &c.translations,
+            bone_rotations_xyzw: &c.rotations,
+            bone_interpolations: &c.interpolations,
+            morph_name_indices: &c.morph_indices,
+            morph_frames: &c.morph_frames,
+            morph_weights: &c.weights,
+            ..Default::default()
+        }
+    }
+}
+
+fn columns([bones, morphs, cameras]: [usize; 3], names: Names) -> Columns {
+    let mut random = Random(2_463_534_242);
+    let mut c = Columns::default();
+    let table = table(bones.max(morphs));
+    for n in 0..table {
+        c.name_bytes.extend(names.bytes(n));
+        c.name_ends.push(c.name_bytes.len() as u32);
+    }
+    for i in 0..bones {
+        c.bone_indices.push(random.next() % table as u32);
+        c.bone_frames.push(i as u32 / 90);
+        c.translations.extend((0..3).map(|_| random.float()));
+        c.rotations.extend((0..4).map(|_| random.float()));
+        c.interpolations.extend((0..16).flat_map(|_| random.next().to_le_bytes()));
+    }
+    for i in 0..morphs {
+        c.morph_indices.push(random.next() % table as u32);
+        c.morph_frames.push(i as u32 / 30);
+        c.weights.push(random.float());
+    }
+    for i in 0..cameras {
+        c.cameras.extend((i as u32).to_le_bytes());
+        (0..7).for_each(|_| c.cameras.extend(random.float().to_le_bytes()));
+        (0..6).for_each(|_| c.cameras.extend(random.next().to_le_bytes()));
+        c.cameras.extend(30u32.to_le_bytes());
+        c.cameras.push((i % 3) as u8);
+    }
+    c
+}
+
+/// The columns as a file, its names' fields in their own way.
+fn file(c: &Columns, names: Names) -> Vec<u8> {
+    let fields: Vec<_> = (0..c.name_ends.len()).map(|n| names.field(n)).collect();
+    let mut file = b"Vocaloid Motion Data 0002\0\0\0\0\0dancer".to_vec();
+    file.resize(50, 0);
+    file.reserve_exact(24 + 111 * c.bone_frames.len() + 23 * c.morph_frames.len() + c.cameras.len());
+    file.extend((c.bone_frames.len() as u32).to_le_bytes());
+    for i in 0..c.bone_frames.len() {
+        file.extend(fields[c.bone_indices[i] as usize]);
+        file.extend(c.bone_frames[i].to_le_bytes());
+        c.translations[3 * i..3 * i + 3].iter().for_each(|value| file.extend(value.to_le_bytes()));
+        c.rotations[4 * i..4 * i + 4].iter().for_each(|value| file.extend(value.to_le_bytes()));
+        file.extend(&c.interpolations[64 * i..64 * i + 64]);
+    }
+    file.extend((c.morph_frames.len() as u32).to_le_bytes());
+    for i in 0..c.morph_frames.len() {
+        file.extend(fields[c.morph_indices[i] as usize]);
+        file.extend(c.morph_frames[i].to_le_bytes());
+        file.extend(c.weights[i].to_le_bytes());
+    }
+    file.extend((c.cameras.len() as u32 / 61).to_le_bytes());
+    file.extend(&c.cameras);
+    file.extend([0; 12]);
+    file
+}

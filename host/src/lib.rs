@@ -1,0 +1,45 @@
+//! VMD takes, the motion files of MikuMikuDance: read, saved, joined and built from parts.
+//!
+//! A thin layer over the C interface of the proved library (`include/vmd.h`). What the calls answer is its doing; this crate
+//! adds the types of Rust, memory for what is written, and [`save`], which puts a take in the place of another and loses
+//! neither on the way.
+//!
+//! ```
+//! // a take of one property frame that switches a leg's inverse kinematics off
+//! let mut frames = Vec::new();
+//! frames.extend(90u32.to_le_bytes()); // frame
+//! frames.push(1); // visible
+//! frames.extend(1u32.to_le_bytes()); // IK states
+//! frames.extend(b"leg\0\0\0\0\0\0\0\0\0\0\0\0\0\0\0\0\0");
+//! frames.push(0); // off
+//! let file = vmd::Parts { model_name: b"dancer", property_frames: &frames, ..Default::default() }.build()?;
+//!
+//! let take = vmd::Take::open(&file)?;
+//! assert_eq!(take.model_name(), b"dancer");
+//! assert_eq!(take.largest_frame(), 90);
+//! let leg = take.ik_state(0, 0).unwrap();
+//! assert_eq!((leg.name, leg.enabled), (&b"leg"[..], false));
+//!
+//! // twice the take: both property frames are there
+//! let twice = vmd::join(&file, &file)?;
+//! assert_eq!(vmd::Take::open(&twice)?.ik_states(), 2);
+//! # Ok::<(), vmd::Error>(())
+//! ```
+#![deny(unsafe_code)]
+#![warn(missing_docs)]
+
+#[allow(unsafe_code)]
+mod c;
+mod parts;
+mod refusal;
+mod save;
+mod take;
+
+pub use c::{export_into, export_size, first_fault, join_into, join_size};
+pub use parts::{NameTable, Parts};
+pub use refusal::{Error, Refusal};
+pub use save::{SaveError, save};
+pub use take::{
+    BoneFrame, CameraFrame, IkState, LightFrame, MorphFrame, PropertyFrame, SelfShadowFrame, Take, export, join,
+    joined_model,
+};

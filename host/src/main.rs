@@ -1,0 +1,235 @@
+//! The command `vmd`: lists, saves and joins takes.
+#![forbid(unsafe_code)]
+
+use std::env;
+use std::ffi::{OsStr, OsString};
+use std::fmt;
+use std::fs::File;
+use std::io::{self, ErrorKind, Read, Write};
+use std::path::Path;
+use std::process::ExitCode;
+
+use vmd::{Error, Refusal, Take};
+
+const HELP: &str = "\
+vmd: VMD takes (MikuMikuDance motion files)
+
+  vmd list FILE..              a line for each take: bones, morphs, cameras, lights, self-shadows, properties, IK states,
+                               largest frame, export length; or 'refused' and the number of the refusal. With several
+                               files each line has the file's name and ': ' before it
+  vmd export IN OUT            saves a take in canonical form
+  vmd join FIRST SECOND.. OUT  joins takes from left to right: in every section the records of each, one after another
+  vmd --help, vmd --version
+
+IN, FIRST, SECOND and FILE may be '-' for standard input, one of them at most, and OUT for standard output. A file whose
+name begins with '-' is written ./-NAME. OUT may be one of the takes that are read, and a link: then the file it leads to is
+replaced. OUT is replaced whole or, where anything fails, not at all.
+
+Exit status: 0; 1 where a take is refused; 2 for bad usage, or where a file cannot be read or written.
+";
+
+/// Why the command did not do what it was asked.
+enum Failure {
+    /// A take that is refused: its name, and why.
+    Refused(String, Refusal),
+    /// A file that cannot be read or written, or too little memory.
+    Io(String),
+    Usage(String),
+}
+
+impl Failure {
+    fn status(&self) -> u8 {
+        match self {
+            Failure::Refused(..) => 1,
+            Failure::Io(_) | Failure::Usage(_) => 2,
+        }
+    }
+
+    fn of(name: &OsStr, error: Error) -> Self {
+        match error {
+            Error::Refused(refusal) => Failure::Refused(shown(name), refusal),
+            Error::NoMemory(_) => Failure::Io(format!("{}: {error}", shown(name))),
+        }
+    }
+
+    /// What is listed of a take that is refused.
+    fn line(&self) -> Option<String> {
+        match self {
+            Failure::Refused(_, refusal) => Some(format!("refused {}", refusal.number())),
+            _ => None,
+        }
+    }
+}
+
+impl fmt::Display for Failure {
+    fn fmt(&self, f: &mut fmt::Formatter<'_>) -> fmt::Result {
+        match self {
+            Failure::Refused(name, refusal) => write!(f, "{name}: {}", Error::Refused(*refusal)),
+            Failure::Io(text) => f.write_str(text),
+            Failure::Usage(text) => write!(f, "{text}; 'vmd --help' tells more"),
+        }
+    }
+}
+
+fn main() -> ExitCode {
+    let words: Vec<OsString> = env::args_os().skip(1).collect();
+    match run(&words) {
+        Ok(status) => ExitCode::from(status),
+        Err(failure) => ExitCode::from(told(&failure)),
+    }
+}
+
+/// Tells a failure on standard error, where that can be written to, and gives its exit status.
+fn told(failure: &Failure) -> u8 {
+    let _ = writeln!(io::stderr(), "vmd: {failure}");
+    failure.status()
+}
+
+fn run(words: &[OsString]) -> Result<u8, Failure> {
+    let Some((command, words)) = words.split_first() else {
+        return Err(Failure::Usage("no command is given".into()));
+    };
+    match command.to_str() {
+        Some("--help" | "-h" | "help") => print(HELP),
+        Some("--version") => print(concat!("vmd ", env!("CARGO_PKG_VERSION"), "\n")),
+        Some("list") => list(files(words)?),
+        Some("export") => export(files(words)?),
+        Some("join") => join(files(words)?),
+        _ => Err(Failure::Usage(format!("there is no command '{}'", command.display()))),
+    }
+}
+
+/// The words of a command, which are all files.
+fn files(words: &[OsString]) -> Result<&[OsString], Failure> {
+    match words.iter().find(|word| word.as_encoded_bytes().starts_with(b"-") && *word != "-") {
+        Some(option) => Err(Failure::Usage(format!("there is no option '{}'", option.display()))),
+        None => Ok(words),
+    }
+}
+
+fn list(names: &[OsString]) -> Result<u8, Failure> {
+    if names.is_empty() {
+        return Err(Failure::Usage("list: no file is given".into()));
+    }
+    standard_input_once(names)?;
+    let mut status = 0;
+    for name in names {
+        let (line, failure) = match read(name).and_then(|file| line(&file).map_err(|error| Failure::of(name, error))) {
+            Ok(line) => (Some(line), None),
+            Err(failure) => (failure.line(), Some(failure)),
+        };
+        if let Some(line) = line {
+            match names {
+                [_] => print(&format!("{line}\n"))?,
+                _ => print(&format!("{}: {line}\n", shown(name)))?,
+            };
+        }
+        if let Some(failure) = failure {
+            status = status.max(told(&failure));
+        }
+    }
+    Ok(status)
+}
+
+/// What is listed of a take.
+fn line(file: &[u8]) -> Result<String, Error> {
+    let take = Take::open(file)?;
+    Ok(format!(
+        "{} {} {} {} {} {} {} {} {}",
+        take.bones(),
+        take.morphs(),
+        take.cameras(),
+        take.lights(),
+        take.self_shadows(),
+        take.properties(),
+        take.ik_states(),
+        take.largest_frame(),
+        vmd::export_size(file)?
+    ))
+}
+
+fn export(names: &[OsString]) -> Result<u8, Failure> {
+    let [from, to] = names else {
+        return Err(Failure::Usage("export: two files are needed, IN and OUT".into()));
+    };
+    let saved = vmd::export(&read(from)?).map_err(|error| Failure::of(from, error))?;
+    write(to, &saved)
+}
+
+fn join(names: &[OsString]) -> Result<u8, Failure> {
+    let [first, _, .., to] = names else {
+        return Err(Failure::Usage("join: at least three files are needed, FIRST, SECOND and OUT".into()));
+    };
+    let takes = &names[..names.len() - 1];
+    standard_input_once(takes)?;
+    let mut joined = read_accepted(first)?;
+    for name in &takes[1..] {
+        joined = vmd::join(&joined, &read_accepted(name)?).map_err(|error| Failure::of(name, error))?;
+    }
+    write(to, &joined)
+}
+
+// ---- files
+
+fn standard_input_once(names: &[OsString]) -> Result<(), Failure> {
+    match names.iter().filter(|name| *name == "-").count() {
+        0 | 1 => Ok(()),
+        _ => Err(Failure::Usage("standard input can be read once only".into())),
+    }
+}
+
+fn shown(name: &OsStr) -> String {
+    if name == "-" { "standard input".into() } else { name.display().to_string() }
+}
+
+/// A whole file. Memory for one whose length is known is asked for at once.
+fn read(name: &OsStr) -> Result<Vec<u8>, Failure> {
+    let mut bytes = Vec::new();
+    let done = if name == "-" {
+        io::stdin().lock().read_to_end(&mut bytes)
+    } else {
+        File::open(name).and_then(|mut file| {
+            let found = file.metadata()?;
+            if found.is_dir() {
+                return Err(io::Error::other("it is a folder"));
+            }
+            let len = usize::try_from(found.len()).map_err(|_| ErrorKind::OutOfMemory)?;
+            bytes.try_reserve_exact(len).map_err(|_| ErrorKind::OutOfMemory)?;
+            file.read_to_end(&mut bytes)
+        })
+    };
+    match done {
+        Ok(_) => Ok(bytes),
+        Err(error) if error.kind() == ErrorKind::OutOfMemory => {
+            Err(Failure::Io(format!("{}: there is no memory to read it", shown(name))))
+        }
+        Err(error) => Err(Failure::Io(format!("{}: cannot read the file: {error}", shown(name)))),
+    }
+}
+
+/// A file that is accepted, so that a refusal names the file it is of.
+fn read_accepted(name: &OsStr) -> Result<Vec<u8>, Failure> {
+    let file = read(name)?;
+    vmd::export_size(&file).map_err(|refusal| Failure::of(name, refusal.into()))?;
+    Ok(file)
+}
+
+fn print(text: &str) -> Result<u8, Failure> {
+    to_standard_output(text.as_bytes())
+}
+
+fn to_standard_output(bytes: &[u8]) -> Result<u8, Failure> {
+    let mut out = io::stdout().lock();
+    out.write_all(bytes)
+        .and_then(|()| out.flush())
+        .map_err(|error| Failure::Io(format!("cannot write to standard output: {error}")))?;
+    Ok(0)
+}
+
+fn write(name: &OsStr, bytes: &[u8]) -> Result<u8, Failure> {
+    if name == "-" {
+        return to_standard_output(bytes);
+    }
+    vmd::save(Path::new(name), bytes).map_err(|error| Failure::Io(error.to_string()))?;
+    Ok(0)
+}

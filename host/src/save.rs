@@ -1,0 +1,196 @@
+//! Saving a file in the place of another.
+use std::fs::{self, File, Metadata, OpenOptions, TryLockError};
+use std::io::{self, ErrorKind, Read, Seek, Write};
+use std::os::unix::fs::{MetadataExt, OpenOptionsExt, fchown};
+use std::path::{Path, PathBuf};
+use std::{error, fmt};
+
+/// What could not be done, with which file, and why.
+#[derive(Debug)]
+pub struct SaveError {
+    doing: &'static str,
+    path: PathBuf,
+    cause: io::Error,
+}
+
+impl fmt::Display for SaveError {
+    fn fmt(&self, f: &mut fmt::Formatter<'_>) -> fmt::Result {
+        write!(f, "{}: cannot {}: {}", self.path.display(), self.doing, self.cause)
+    }
+}
+
+impl error::Error for SaveError {
+    fn source(&self) -> Option<&(dyn error::Error + 'static)> {
+        Some(&self.cause)
+    }
+}
+
+/// Names what was being done, for an error that has only the system's word.
+trait While<T> {
+    fn doing(self, doing: &'static str, path: &Path) -> Result<T, SaveError>;
+}
+
+impl<T> While<T> for io::Result<T> {
+    fn doing(self, doing: &'static str, path: &Path) -> Result<T, SaveError> {
+        self.map_err(|cause| SaveError { doing, path: path.to_owned(), cause })
+    }
+}
+
+/// Puts these bytes in the place of the file, whole or not at all.
+///
+/// They are written to a new file in the target's folder, flushed to the disk, read back and compared; only then does the
+/// new file take the target's name, in one step, and the folder is flushed. Where anything fails the target is as it was;
+/// where the process is ended, at any point, it is the old file or the new one. Where the flush of the folder fails, the new
+/// file has the name already; that is the one error after which the target is the new file.
+///
+/// The target keeps its mode, and its owner and group where the system lets the caller set them. A target that the caller
+/// may not write to is not replaced. A symbolic link is followed: the file that it leads to is replaced, and the link stays.
+/// Other hard links to the old file keep its old contents.
+///
+/// The new file is named `.vmd-save-0.tmp`, or with the next number that no running save has; it is locked while it is
+/// written. One that is not locked was left by a process that was ended, and the next save in the folder removes it.
+pub fn save(path: &Path, bytes: &[u8]) -> Result<(), SaveError> {
+    let target = linked_to(path)?;
+    let old = replaceable(&target)?;
+    let folder = match target.parent() {
+        Some(parent) if parent != Path::new("") => parent,
+        _ => Path::new("."),
+    };
+    // Opened first: a folder that cannot be flushed is found while nothing has changed yet.
+    let flushed = File::open(folder).doing("open the folder", folder)?;
+    remove_left(folder);
+    let mut new = NewFile::create(folder, old.is_some())?;
+    new.file.write_all(bytes).doing("write the new file", path)?;
+    if let Some(old) = &old {
+        keep_owner_and_mode(&new.file, old).doing("set the new file's mode", path)?;
+    }
+    new.file.sync_all().doing("flush the new file", path)?;
+    compare(&mut new.file, bytes).doing("read the new file back", path)?;
+    fs::rename(&new.path, &target).doing("replace the file", path)?;
+    new.ours = false;
+    match flushed.sync_all() {
+        // a file system that does not know of flushing folders
+        Err(error) if matches!(error.kind(), ErrorKind::InvalidInput | ErrorKind::Unsupported) => Ok(()),
+        done => done.doing("flush the folder, and the new file is in its place", path),
+    }
+}
+
+/// The file that a path leads to, through symbolic links; it need not be there.
+fn linked_to(path: &Path) -> Result<PathBuf, SaveError> {
+    let mut target = path.to_owned();
+    for _ in 0..40 {
+        match fs::read_link(&target) {
+            Ok(link) => target = target.parent().unwrap_or(Path::new("")).join(link),
+            Err(_) => return Ok(target), // no link, or no such file
+        }
+    }
+    Err(io::Error::other("too many symbolic links")).doing("find the file", path)
+}
+
+/// The old file where there is one, if it may be replaced. A rename asks only for permission on the folder: whether the file
+/// itself may be written to is found by opening it.
+fn replaceable(target: &Path) -> Result<Option<Metadata>, SaveError> {
+    let old = match fs::symlink_metadata(target) {
+        Err(error) if error.kind() == ErrorKind::NotFound => return Ok(None),
+        found => found.doing("find the file", target)?,
+    };
+    if old.is_dir() {
+        return Err(io::Error::other("it is a folder")).doing("replace the file", target);
+    }
+    if !old.is_file() {
+        return Err(io::Error::other("it is no regular file")).doing("replace the file", target);
+    }
+    OpenOptions::new().write(true).open(target).doing("write to the file", target)?;
+    Ok(Some(old))
+}
+
+fn keep_owner_and_mode(file: &File, old: &Metadata) -> io::Result<()> {
+    let new = file.metadata()?;
+    if (new.uid(), new.gid()) != (old.uid(), old.gid()) {
+        // Only root may give a file away; for others the file is theirs, as any new file is.
+        let _ = fchown(file, Some(old.uid()), Some(old.gid()));
+    }
+    file.set_permissions(old.permissions())
+}
+
+fn compare(file: &mut File, bytes: &[u8]) -> io::Result<()> {
+    let differs = || io::Error::other("it is not what was written");
+    let mut piece = vec![0; 1 << 16];
+    let mut left = bytes;
+    file.rewind()?;
+    loop {
+        let n = file.read(&mut piece)?;
+        if n == 0 {
+            return if left.is_empty() { Ok(()) } else { Err(differs()) };
+        }
+        left = left.strip_prefix(&piece[..n]).ok_or_else(differs)?;
+    }
+}
+
+/// The names that new files may have.
+fn new_names(folder: &Path) -> impl Iterator<Item = PathBuf> {
+    (0..10_000).map(|number| folder.join(format!(".vmd-save-{number}.tmp")))
+}
+
+/// A file beside the target. While it is ours it is locked, and removed where it does not take the target's name.
+struct NewFile {
+    path: PathBuf,
+    file: File,
+    ours: bool,
+}
+
+impl NewFile {
+    /// Private until it has the old file's mode, where there is an old file.
+    fn create(folder: &Path, private: bool) -> Result<NewFile, SaveError> {
+        let mode = if private { 0o600 } else { 0o666 };
+        for path in new_names(folder) {
+            match OpenOptions::new().read(true).write(true).create_new(true).mode(mode).open(&path) {
+                Ok(file) => {
+                    let mut new = NewFile { path, file, ours: false };
+                    new.ours = new.lock();
+                    if new.ours {
+                        return Ok(new);
+                    }
+                }
+                Err(error) if error.kind() == ErrorKind::AlreadyExists => {}
+                Err(error) => return Err(error).doing("make a new file in the folder", folder),
+            }
+        }
+        Err(io::Error::other("too many files .vmd-save-N.tmp are there")).doing("make a new file in the folder", folder)
+    }
+
+    /// Before it was locked, another save may have taken it for one that was left, and removed it. Where the file system has
+    /// no locks, none is removed so.
+    fn lock(&self) -> bool {
+        !matches!(self.file.try_lock(), Err(TryLockError::WouldBlock)) && same_file(&self.file, &self.path)
+    }
+}
+
+impl Drop for NewFile {
+    fn drop(&mut self) {
+        if self.ours {
+            let _ = fs::remove_file(&self.path);
+        }
+    }
+}
+
+/// Removes the new files of saves that were ended, those whose lock can be had, among the names that sixteen saves at a time
+/// would have. What cannot be removed stays.
+fn remove_left(folder: &Path) {
+    for path in new_names(folder).take(16) {
+        if fs::symlink_metadata(&path).is_ok_and(|found| found.is_file())
+            && let Ok(file) = File::open(&path)
+            && file.try_lock().is_ok()
+            && same_file(&file, &path)
+        {
+            let _ = fs::remove_file(&path);
+        }
+    }
+}
+
+fn same_file(file: &File, path: &Path) -> bool {
+    match (file.metadata(), fs::symlink_metadata(path)) {
+        (Ok(open), Ok(named)) => (open.dev(), open.ino()) == (named.dev(), named.ino()),
+        _ => false,
+    }
+}

@@ -1,0 +1,250 @@
+use std::borrow::Cow;
+
+use crate::c;
+use crate::refusal::{Error, Refusal};
+
+/// An accepted take: the file's bytes, owned or borrowed, and what opening found in them.
+///
+/// Records are fetched by number, `None` at and above the count. Names are the bytes before the first zero, and lie in the
+/// file; floats have the file's 32 bits.
+#[derive(Clone, Debug)]
+pub struct Take<'a> {
+    file: Cow<'a, [u8]>,
+    opening: c::Opening,
+    scratch: Vec<u64>,
+}
+
+/// A bone's position and turn at a frame.
+#[derive(Clone, Copy, Debug, PartialEq)]
+#[allow(missing_docs)]
+pub struct BoneFrame<'t> {
+    pub name: &'t [u8],
+    pub frame: u32,
+    pub translation: [f32; 3],
+    pub rotation: [f32; 4],
+    /// 64 bytes.
+    pub interpolation: &'t [u8],
+}
+
+/// A face morph's weight at a frame.
+#[derive(Clone, Copy, Debug, PartialEq)]
+#[allow(missing_docs)]
+pub struct MorphFrame<'t> {
+    pub name: &'t [u8],
+    pub frame: u32,
+    pub weight: f32,
+}
+
+/// The camera at a frame.
+#[derive(Clone, Copy, Debug, PartialEq)]
+#[allow(missing_docs)]
+pub struct CameraFrame<'t> {
+    pub frame: u32,
+    pub distance: f32,
+    pub position: [f32; 3],
+    pub rotation: [f32; 3],
+    /// 24 bytes.
+    pub interpolation: &'t [u8],
+    pub field_of_view: u32,
+    /// True where the file's byte is 0.
+    pub perspective: bool,
+}
+
+/// The light at a frame.
+#[derive(Clone, Copy, Debug, PartialEq)]
+#[allow(missing_docs)]
+pub struct LightFrame {
+    pub frame: u32,
+    pub color: [f32; 3],
+    pub direction: [f32; 3],
+}
+
+/// The self-shadow at a frame.
+#[derive(Clone, Copy, Debug, PartialEq)]
+#[allow(missing_docs)]
+pub struct SelfShadowFrame {
+    pub frame: u32,
+    pub mode: u8,
+    pub distance: f32,
+}
+
+/// A property frame; its IK states are fetched by its number and theirs.
+#[derive(Clone, Copy, Debug, PartialEq, Eq)]
+#[allow(missing_docs)]
+pub struct PropertyFrame {
+    pub frame: u32,
+    pub visible: bool,
+    /// How many IK states it has.
+    pub ik_states: u32,
+}
+
+/// Whether a chain's inverse kinematics is on.
+#[derive(Clone, Copy, Debug, PartialEq, Eq)]
+#[allow(missing_docs)]
+pub struct IkState<'t> {
+    pub name: &'t [u8],
+    pub enabled: bool,
+}
+
+/// Floats by their bits, in the order that a record has them.
+fn floats<const N: usize>(bits: &[u32]) -> [f32; N] {
+    std::array::from_fn(|k| f32::from_bits(bits[k]))
+}
+
+impl<'a> Take<'a> {
+    /// Checks a whole file. It may be lent (`&[u8]`, `&Vec<u8>`) or given (`Vec<u8>`).
+    pub fn open(file: impl Into<Cow<'a, [u8]>>) -> Result<Self, Error> {
+        let file = file.into();
+        // How many property frames there are is not known before: a refused opening gives its number only. The scratch
+        // grows until it is enough, and a property frame has 9 bytes.
+        let most = file.len() / 9;
+        let mut scratch = Vec::new();
+        loop {
+            match c::open(&file, &mut scratch) {
+                Ok(opening) => {
+                    scratch.truncate(opening.counts[5] as usize);
+                    return Ok(Take { file, opening, scratch });
+                }
+                Err(Refusal::ScratchTooShort) if scratch.len() < most => {
+                    let places = (16 * scratch.len()).clamp(16, most.max(16));
+                    scratch.try_reserve_exact(places - scratch.len()).map_err(|_| Error::NoMemory(8 * places as u64))?;
+                    scratch.resize(places, 0);
+                }
+                Err(refusal) => return Err(refusal.into()),
+            }
+        }
+    }
+
+    /// The file's bytes.
+    pub fn file(&self) -> &[u8] {
+        &self.file
+    }
+
+    /// The number of bone frames.
+    pub fn bones(&self) -> usize {
+        self.opening.counts[0] as usize
+    }
+
+    /// The number of morph frames.
+    pub fn morphs(&self) -> usize {
+        self.opening.counts[1] as usize
+    }
+
+    /// The number of camera frames.
+    pub fn cameras(&self) -> usize {
+        self.opening.counts[2] as usize
+    }
+
+    /// The number of light frames.
+    pub fn lights(&self) -> usize {
+        self.opening.counts[3] as usize
+    }
+
+    /// The number of self-shadow frames.
+    pub fn self_shadows(&self) -> usize {
+        self.opening.counts[4] as usize
+    }
+
+    /// The number of property frames.
+    pub fn properties(&self) -> usize {
+        self.opening.counts[5] as usize
+    }
+
+    /// The number of IK states, over all property frames.
+    pub fn ik_states(&self) -> u64 {
+        self.opening.totals[0]
+    }
+
+    /// The largest frame over all six sections, 0 with no records.
+    pub fn largest_frame(&self) -> u32 {
+        self.opening.totals[1] as u32
+    }
+
+    /// The model name.
+    pub fn model_name(&self) -> &[u8] {
+        c::model_name(&self.file)
+    }
+
+    /// Bone frame `i`.
+    pub fn bone(&self, i: usize) -> Option<BoneFrame<'_>> {
+        let r = c::bone_frame(&self.file, &self.opening, i)?;
+        Some(BoneFrame {
+            name: c::bone_name(&self.file, &self.opening, i),
+            frame: r[0],
+            translation: floats(&r[1..]),
+            rotation: floats(&r[4..]),
+            interpolation: c::bone_interpolation(&self.file, &self.opening, i),
+        })
+    }
+
+    /// Morph frame `i`.
+    pub fn morph(&self, i: usize) -> Option<MorphFrame<'_>> {
+        let r = c::morph_frame(&self.file, &self.opening, i)?;
+        let name = c::morph_name(&self.file, &self.opening, i);
+        Some(MorphFrame { name, frame: r[0], weight: f32::from_bits(r[1]) })
+    }
+
+    /// Camera frame `i`.
+    pub fn camera(&self, i: usize) -> Option<CameraFrame<'_>> {
+        let r = c::camera_frame(&self.file, &self.opening, i)?;
+        Some(CameraFrame {
+            frame: r[0],
+            distance: f32::from_bits(r[1]),
+            position: floats(&r[2..]),
+            rotation: floats(&r[5..]),
+            interpolation: c::camera_interpolation(&self.file, &self.opening, i),
+            field_of_view: r[8],
+            perspective: r[9] != 0,
+        })
+    }
+
+    /// Light frame `i`.
+    pub fn light(&self, i: usize) -> Option<LightFrame> {
+        let r = c::light_frame(&self.file, &self.opening, i)?;
+        Some(LightFrame { frame: r[0], color: floats(&r[1..]), direction: floats(&r[4..]) })
+    }
+
+    /// Self-shadow frame `i`.
+    pub fn self_shadow(&self, i: usize) -> Option<SelfShadowFrame> {
+        let r = c::self_shadow_frame(&self.file, &self.opening, i)?;
+        Some(SelfShadowFrame { frame: r[0], mode: r[1] as u8, distance: f32::from_bits(r[2]) })
+    }
+
+    /// Property frame `i`.
+    pub fn property(&self, i: usize) -> Option<PropertyFrame> {
+        let r = c::property_frame(&self.file, &self.opening, &self.scratch, i)?;
+        Some(PropertyFrame { frame: r[0], visible: r[1] != 0, ik_states: r[2] })
+    }
+
+    /// IK state `j` of property frame `i`.
+    pub fn ik_state(&self, i: usize, j: usize) -> Option<IkState<'_>> {
+        let enabled = c::ik_state(&self.file, &self.opening, &self.scratch, i, j)?;
+        Some(IkState { name: c::ik_name(&self.file, &self.opening, &self.scratch, i, j), enabled })
+    }
+}
+
+/// The canonical file with a take's records and model name.
+///
+/// ```
+/// let mut file = *b"Vocaloid Motion Data 0002\0????dancer\0?????????????\0\0\0\0"; // a model name, and no bones
+/// let saved = vmd::export(&file)?;
+/// assert_eq!(saved.len(), 74);
+/// assert_eq!(vmd::export(&saved)?, saved);
+/// file[0] = b'v';
+/// assert_eq!(vmd::export(&file), Err(vmd::Refusal::MagicDiffers.into()));
+/// # Ok::<(), vmd::Error>(())
+/// ```
+pub fn export(file: &[u8]) -> Result<Vec<u8>, Error> {
+    c::export(file)
+}
+
+/// The canonical file whose every section has the first take's records, then the second's. Its model name is the first's,
+/// or the second's where that is empty.
+pub fn join(first: &[u8], second: &[u8]) -> Result<Vec<u8>, Error> {
+    c::join(first, second)
+}
+
+/// The model name of the join of two files.
+pub fn joined_model<'f>(first: &'f [u8], second: &'f [u8]) -> &'f [u8] {
+    c::joined_model(first, second)
+}

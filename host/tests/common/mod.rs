@@ -1,0 +1,95 @@
+//! Takes written without the library, and folders to work in.
+#![allow(dead_code)] // each test uses some of it
+
+use std::fs;
+use std::path::{Path, PathBuf};
+use std::process::{Command, Output};
+use std::sync::atomic::{AtomicU32, Ordering};
+
+/// The magic and a zero model name: 50 bytes.
+pub fn start() -> Vec<u8> {
+    let mut file = b"Vocaloid Motion Data 0002".to_vec();
+    file.resize(50, 0);
+    file
+}
+
+/// The start, and these counts.
+pub fn counts(counts: &[u32]) -> Vec<u8> {
+    let mut file = start();
+    counts.iter().for_each(|count| file.extend(count.to_le_bytes()));
+    file
+}
+
+/// A canonical take of so many bones, whose bytes depend on the seed.
+pub fn bones(n: u32, seed: u32) -> Vec<u8> {
+    let mut file = counts(&[n]);
+    for i in 0..n {
+        file.extend(b"center\0\0\0\0\0\0\0\0\0");
+        file.extend(i.to_le_bytes());
+        file.extend((0..23u32).flat_map(|k| (i ^ seed.wrapping_mul(2654435761).wrapping_add(k)).to_le_bytes()));
+    }
+    file.resize(file.len() + 20, 0);
+    file
+}
+
+/// A folder of the test's own, removed with all in it when it goes out of scope.
+pub struct Folder(pub PathBuf);
+
+impl Folder {
+    pub fn new(name: &str) -> Folder {
+        static NUMBER: AtomicU32 = AtomicU32::new(0);
+        let number = NUMBER.fetch_add(1, Ordering::Relaxed);
+        let path = Path::new(env!("CARGO_TARGET_TMPDIR")).join(format!("{name}-{}-{number}", std::process::id()));
+        fs::create_dir(&path).unwrap();
+        Folder(path)
+    }
+
+    pub fn join(&self, name: &str) -> PathBuf {
+        self.0.join(name)
+    }
+
+    /// The path of a file with these bytes.
+    pub fn file(&self, name: &str, bytes: &[u8]) -> PathBuf {
+        let path = self.join(name);
+        fs::write(&path, bytes).unwrap();
+        path
+    }
+
+    /// The names of all that is there, in order.
+    pub fn names(&self) -> Vec<String> {
+        let mut names: Vec<_> =
+            fs::read_dir(&self.0).unwrap().map(|entry| entry.unwrap().file_name().into_string().unwrap()).collect();
+        names.sort();
+        names
+    }
+}
+
+impl Drop for Folder {
+    fn drop(&mut self) {
+        let _ = fs::remove_dir_all(&self.0);
+    }
+}
+
+/// The command `vmd`.
+pub fn vmd() -> Command {
+    Command::new(env!("CARGO_BIN_EXE_vmd"))
+}
+
+/// The command under a shell's settings, as `ulimit -f 1`.
+pub fn vmd_under(settings: &str) -> Command {
+    let mut shell = Command::new("sh");
+    shell.args(["-c", &format!("{settings}; exec \"$@\""), "sh", env!("CARGO_BIN_EXE_vmd")]);
+    shell
+}
+
+pub fn status(output: &Output) -> i32 {
+    output.status.code().unwrap_or_else(|| panic!("ended by a signal: {output:?}"))
+}
+
+pub fn out(output: &Output) -> String {
+    String::from_utf8(output.stdout.clone()).unwrap()
+}
+
+pub fn err(output: &Output) -> String {
+    String::from_utf8(output.stderr.clone()).unwrap()
+}

@@ -1,0 +1,35 @@
+//! The takes in the repository's folder `examples` are what their maker writes.
+use std::fs;
+use std::path::Path;
+
+use vmd::Take;
+
+#[path = "../examples/make_examples.rs"]
+mod make_examples;
+
+#[test]
+fn the_examples_are_what_their_maker_writes() {
+    let folder = Path::new(env!("CARGO_MANIFEST_DIR")).join("../examples");
+    let takes = make_examples::takes().unwrap();
+    let mut names: Vec<_> = fs::read_dir(&folder).unwrap().map(|entry| entry.unwrap().file_name()).collect();
+    names.sort();
+    let mut expected: Vec<_> = takes.iter().map(|(name, _)| *name).collect();
+    expected.sort();
+    assert_eq!(names, expected);
+    for (name, file) in takes {
+        assert!(fs::read(folder.join(name)).unwrap() == file, "{name} is another: run 'cargo run --example make_examples'");
+    }
+}
+
+#[test]
+fn the_leap_switches_the_legs_off() {
+    let takes = make_examples::takes().unwrap();
+    for name in ["leap.vmd", "show.vmd"] {
+        let (_, file) = takes.iter().find(|(of, _)| *of == name).unwrap();
+        let take = Take::open(file).unwrap();
+        let enabled: Vec<_> = (0..take.properties())
+            .map(|i| (take.property(i).unwrap().frame, [0, 1].map(|j| take.ik_state(i, j).unwrap().enabled)))
+            .collect();
+        assert_eq!(enabled, [(0, [true, true]), (20, [false, true]), (22, [false, false]), (55, [true, true])], "{name}");
+    }
+}

@@ -1,0 +1,436 @@
+//! Saving over a take loses nothing: the file is the old one or the new one, whole, whatever happens.
+mod common;
+
+use std::collections::HashMap;
+use std::fs::{self, File, Permissions};
+use std::os::unix::fs::{FileTypeExt, MetadataExt, PermissionsExt, symlink};
+use std::os::unix::process::CommandExt;
+use std::path::{Path, PathBuf};
+use std::process::{Command, Output, Stdio};
+use std::thread;
+use std::time::{Duration, Instant, SystemTime};
+
+use common::{Folder, bones, err, status, vmd, vmd_under};
+
+/// A folder with the canonical takes `new` and `old`, and `take`, which is the old one and is to be saved over.
+struct Saving {
+    folder: Folder,
+    old: Vec<u8>,
+    new: Vec<u8>,
+}
+
+impl Saving {
+    fn of(name: &str, bones_each: u32) -> Saving {
+        let saving = Saving { folder: Folder::new(name), old: bones(bones_each, 1), new: bones(bones_each + 1, 2) };
+        saving.folder.file("new", &saving.new);
+        saving.put_back();
+        saving
+    }
+
+    fn put_back(&self) {
+        fs::write(self.take(), &self.old).unwrap();
+    }
+
+    fn take(&self) -> PathBuf {
+        self.folder.join("take")
+    }
+
+    /// Saves the new take over the old one.
+    fn run(&self, command: &mut Command) -> Output {
+        self.words(command).output().unwrap()
+    }
+
+    fn words<'c>(&self, command: &'c mut Command) -> &'c mut Command {
+        command.arg("export").args([self.folder.join("new"), self.take()]).stdout(Stdio::null()).stderr(Stdio::piped())
+    }
+
+    /// How long a whole save takes.
+    fn timed(&self) -> Duration {
+        let begun = Instant::now();
+        assert_eq!(status(&self.run(&mut vmd())), 0);
+        begun.elapsed()
+    }
+
+    /// Whether the take is the new one; it is the old one else.
+    fn is_new(&self) -> bool {
+        let found = fs::read(self.take()).unwrap();
+        assert!(found == self.old || found == self.new, "the take is neither the old one nor the new one");
+        found == self.new
+    }
+
+    fn litter(&self) -> usize {
+        self.folder.names().iter().filter(|name| name.starts_with(".vmd-save-")).count()
+    }
+
+    /// The next save is not kept from its work by what an ended one has left, and leaves nothing itself.
+    fn expect_next_save_works(&self) {
+        let done = self.run(&mut vmd());
+        assert_eq!((status(&done), err(&done)), (0, String::new()));
+        assert!(self.is_new());
+        assert_eq!(self.folder.names(), ["new", "take"]);
+    }
+}
+
+/// The command is killed at random moments while it saves over a take of some MiB.
+#[test]
+fn killed_at_any_moment() {
+    let saving = Saving::of("killed", 40_000);
+    let whole = (0..3).map(|_| saving.timed()).min().unwrap();
+    let seed = SystemTime::now().duration_since(SystemTime::UNIX_EPOCH).unwrap().as_nanos() as u64 | 1;
+    println!("seed {seed}, a whole save takes {whole:?}");
+    let mut random = seed;
+    let (mut kills, mut new, mut left) = (0, 0, 0);
+    // On a machine whose speed changes the moments may lie badly: then some more.
+    while kills < 300 || (kills < 3000 && (left == 0 || new == 0)) {
+        saving.put_back();
+        random ^= random << 13;
+        random ^= random >> 7;
+        random ^= random << 17;
+        let mut child = saving.words(&mut vmd()).spawn().unwrap();
+        thread::sleep(whole.mul_f64((random % 1000) as f64 / 900.0));
+        child.kill().unwrap();
+        child.wait().unwrap();
+        kills += 1;
+        new += u32::from(saving.is_new());
+        left += u32::from(saving.litter() > 0);
+    }
+    println!("{kills} killed: the new take {new} times, a file left {left} times");
+    assert!(left > 0 && new > 0 && new < kills, "the moments were badly chosen");
+    saving.expect_next_save_works();
+}
+
+/// The system calls of a save from the first that names a take on, as strace has them: each with how often it was made so
+/// far. None without strace.
+fn system_calls(saving: &Saving) -> Option<Vec<(String, u32)>> {
+    let log = saving.folder.join("log");
+    let mut strace = Command::new("strace");
+    let traced = saving.words(strace.arg("-o").arg(&log).arg(env!("CARGO_BIN_EXE_vmd"))).output();
+    if !traced.is_ok_and(|output| output.status.success()) {
+        println!("not tried: there is no strace here, or it may not trace");
+        return None;
+    }
+    let text = fs::read_to_string(&log).unwrap();
+    fs::remove_file(&log).unwrap();
+    let (mut so_far, mut calls, mut begun) = (HashMap::new(), Vec::new(), false);
+    for line in text.lines() {
+        let Some((name, arguments)) = line.split_once('(') else { continue };
+        let n = so_far.entry(name).or_insert(0);
+        *n += 1;
+        begun |= name == "openat" && arguments.contains("/new\"");
+        if begun && name != "exit_group" {
+            calls.push((name.to_owned(), *n));
+        }
+    }
+    Some(calls)
+}
+
+/// The command with something done to it at one of its system calls.
+fn injected((call, n): &(String, u32), what: &str) -> Command {
+    let mut strace = Command::new("strace");
+    strace.args(["-qq", "-o", "/dev/null", "-e", &format!("inject={call}:{what}:when={n}")]).arg(env!("CARGO_BIN_EXE_vmd"));
+    strace
+}
+
+/// The command is killed before each of its system calls in turn.
+#[test]
+fn killed_before_each_system_call() {
+    let saving = Saving::of("calls", 1000);
+    let Some(calls) = system_calls(&saving) else { return };
+    let (mut new, mut left) = (0, 0);
+    for call in &calls {
+        saving.put_back();
+        let done = saving.run(&mut injected(call, "signal=SIGKILL"));
+        assert!(!done.status.success(), "{call:?} was not met");
+        new += u32::from(saving.is_new());
+        left += u32::from(saving.litter() > 0);
+    }
+    println!("killed before each of {} system calls: the new take {new} times, a file left {left} times", calls.len());
+    assert!(left > 5 && new > 2);
+    saving.expect_next_save_works();
+}
+
+/// Each system call fails in turn: the old take stays, or the new one is there. Where the command says that it is done it is.
+#[test]
+fn each_system_call_fails() {
+    let saving = Saving::of("fails", 1000);
+    let Some(mut calls) = system_calls(&saving) else { return };
+    calls.retain(|(name, _)| !["brk", "mmap", "munmap", "mremap"].contains(&name.as_str())); // too little memory is not this
+    let mut told = 0;
+    for error in ["EIO", "ENOSPC"] {
+        for call in &calls {
+            saving.put_back();
+            let done = saving.run(&mut injected(call, &format!("error={error}")));
+            let new = saving.is_new();
+            match done.status.code() {
+                Some(0) => {
+                    assert!(new, "{call:?} failed, and the old take is there without a word");
+                    assert!(
+                        !["write", "fchmod", "fsync", "read", "rename"].contains(&call.0.as_str()),
+                        "{call:?} failed unseen"
+                    );
+                }
+                Some(2) => {
+                    told += 1;
+                    let folder_not_flushed = err(&done).contains("the new file is in its place");
+                    assert_eq!(new, folder_not_flushed, "{call:?}: {}", err(&done));
+                    assert_eq!(saving.litter(), 0, "{call:?}: {}", err(&done));
+                    assert_eq!(err(&done).lines().count(), 1);
+                }
+                _ => panic!("{call:?} ended the command: {:?}", done.status),
+            }
+        }
+    }
+    println!("{} system calls failed, twice each; {told} times it was told", calls.len());
+    assert!(told > 10);
+    saving.expect_next_save_works();
+}
+
+/// The new file is flushed before it takes the name, and the folder after.
+#[test]
+fn flushed_before_and_after() {
+    let saving = Saving::of("flushed", 1000);
+    let Some(calls) = system_calls(&saving) else { return };
+    let order: Vec<_> =
+        calls.iter().map(|(name, _)| name.as_str()).filter(|n| ["write", "fsync", "rename"].contains(n)).collect();
+    assert_eq!(order, ["write", "fsync", "rename", "fsync"]);
+}
+
+/// A disk that says it has written and has not: what is read back is not what was written.
+#[test]
+fn a_write_that_was_lost() {
+    let saving = Saving::of("lost", 1000);
+    let Some(calls) = system_calls(&saving) else { return };
+    let call = calls.iter().find(|(name, _)| name == "write").unwrap();
+    saving.put_back();
+    let done = saving.run(&mut injected(call, &format!("retval={}", saving.new.len())));
+    assert_eq!(status(&done), 2);
+    assert!(err(&done).contains("cannot read the new file back: it is not what was written"), "{}", err(&done));
+    assert!(!saving.is_new());
+    assert_eq!(saving.folder.names(), ["new", "take"]);
+}
+
+/// A disk that is full, by a limit on the length of files: the write fails, or the process is ended.
+#[test]
+fn no_room_by_a_limit() {
+    let saving = Saving::of("limit", 1000);
+    let done = saving.run(&mut vmd_under("trap '' XFSZ; ulimit -f 8"));
+    assert_eq!(status(&done), 2);
+    assert!(err(&done).contains("cannot write the new file: File too large"), "{}", err(&done));
+    assert!(!saving.is_new());
+    assert_eq!(saving.folder.names(), ["new", "take"]);
+
+    let done = saving.run(&mut vmd_under("ulimit -f 8"));
+    assert!(done.status.code().is_none(), "SIGXFSZ ends the process");
+    assert!(!saving.is_new());
+    assert_eq!(saving.litter(), 1);
+    saving.expect_next_save_works();
+}
+
+/// A disk that is full, by a small file system of the test's own, where root may mount one.
+#[test]
+fn no_room_on_the_disk() {
+    let saving = Saving::of("disk", 9000); // 1 MB
+    let script = r#"
+        mkdir "$1/disk" && mount -t tmpfs -o size=1500k tmpfs "$1/disk" || exit 99
+        cp "$1/take" "$1/disk/take" || exit 98
+        "$2" export "$1/new" "$1/disk/take"
+        echo "$?" > "$1/status"
+        ls -A "$1/disk" > "$1/names"
+        cp "$1/disk/take" "$1/take"
+    "#;
+    let mut shell = Command::new("unshare");
+    shell.args(["-m", "sh", "-c", script, "sh"]).arg(&saving.folder.0).arg(env!("CARGO_BIN_EXE_vmd"));
+    match shell.output() {
+        Ok(done) if done.status.success() => {
+            assert_eq!(fs::read_to_string(saving.folder.join("status")).unwrap(), "2\n");
+            assert!(err(&done).contains("cannot write the new file: No space left on device"), "{}", err(&done));
+            assert_eq!(fs::read_to_string(saving.folder.join("names")).unwrap(), "take\n");
+            assert!(!saving.is_new());
+        }
+        _ => println!("not tried: no file system can be mounted here"),
+    }
+}
+
+#[test]
+fn the_mode_stays() {
+    let saving = Saving::of("mode", 10);
+    for mode in [0o600, 0o640, 0o664, 0o755] {
+        saving.put_back();
+        fs::set_permissions(saving.take(), Permissions::from_mode(mode)).unwrap();
+        saving.expect_next_save_works();
+        assert_eq!(fs::metadata(saving.take()).unwrap().mode() & 0o7777, mode);
+    }
+}
+
+/// Root saves a file that is another's.
+#[test]
+fn the_owner_stays() {
+    let saving = Saving::of("owner", 10);
+    if let Err(error) = std::os::unix::fs::chown(saving.take(), Some(65534), Some(65534)) {
+        return println!("not tried: {error}");
+    }
+    saving.expect_next_save_works();
+    let found = fs::metadata(saving.take()).unwrap();
+    assert_eq!((found.uid(), found.gid()), (65534, 65534));
+}
+
+/// A new file gets the mode that any new file gets.
+#[test]
+fn a_file_that_was_not_there() {
+    let saving = Saving::of("fresh", 10);
+    fs::remove_file(saving.take()).unwrap();
+    let done = saving.run(&mut vmd_under("umask 027"));
+    assert_eq!((status(&done), err(&done)), (0, String::new()));
+    assert!(saving.is_new());
+    assert_eq!(fs::metadata(saving.take()).unwrap().mode() & 0o7777, 0o640);
+}
+
+#[test]
+fn a_link_is_followed_and_stays() {
+    let saving = Saving::of("link", 10);
+    let there = saving.folder.join("there");
+    fs::create_dir(&there).unwrap();
+    fs::rename(saving.take(), there.join("take")).unwrap();
+    symlink("there/second", saving.take()).unwrap();
+    symlink("take", there.join("second")).unwrap();
+    assert_eq!(status(&saving.run(&mut vmd())), 0);
+    assert_eq!(fs::read_link(saving.take()).unwrap(), Path::new("there/second"));
+    assert_eq!(fs::read_link(there.join("second")).unwrap(), Path::new("take"));
+    assert!(saving.is_new() && fs::symlink_metadata(there.join("take")).unwrap().is_file());
+    assert_eq!(fs::read_dir(&there).unwrap().count(), 2);
+    assert_eq!(saving.folder.names(), ["new", "take", "there"]);
+
+    // a link to a file that is not there makes it
+    fs::remove_file(there.join("take")).unwrap();
+    assert_eq!(status(&saving.run(&mut vmd())), 0);
+    assert!(saving.is_new() && fs::symlink_metadata(there.join("take")).unwrap().is_file());
+
+    // links in a circle
+    fs::remove_file(there.join("second")).unwrap();
+    symlink("../take", there.join("second")).unwrap();
+    let done = saving.run(&mut vmd());
+    assert_eq!(status(&done), 2);
+    assert!(err(&done).contains("too many symbolic links"), "{}", err(&done));
+}
+
+/// Folders, pipes and devices are not replaced.
+#[test]
+fn no_file_to_replace() {
+    let saving = Saving::of("kinds", 10);
+    fs::remove_file(saving.take()).unwrap();
+    let expect = |sentence: &str| {
+        let done = saving.run(&mut vmd());
+        assert_eq!(status(&done), 2);
+        assert!(err(&done).contains(sentence) && err(&done).lines().count() == 1, "{}", err(&done));
+        assert_eq!(saving.folder.names(), ["new", "take"]);
+    };
+    fs::create_dir(saving.take()).unwrap();
+    expect("it is a folder");
+    fs::remove_dir(saving.take()).unwrap();
+    assert!(Command::new("mkfifo").arg(saving.take()).status().unwrap().success());
+    expect("it is no regular file");
+    assert!(fs::metadata(saving.take()).unwrap().file_type().is_fifo());
+    fs::remove_file(saving.take()).unwrap();
+    symlink("/dev/full", saving.take()).unwrap();
+    expect("it is no regular file");
+    fs::remove_file(saving.take()).unwrap();
+    symlink("no-such-folder/take", saving.take()).unwrap();
+    expect("No such file or directory");
+}
+
+/// Neither a take that may not be written to is replaced, nor one in a folder where no file can be made.
+#[test]
+fn without_permission() {
+    let saving = Saving::of("permission", 10);
+    let attempt = || {
+        let mut command = vmd();
+        if fs::metadata(saving.take()).unwrap().uid() == 0 {
+            command.uid(65534).gid(65534); // root may write to everything
+        }
+        saving.words(&mut command).output()
+    };
+    let expect = |sentence: &str| match attempt() {
+        Err(error) => println!("not tried: {error}"),
+        Ok(done) => {
+            assert_eq!(status(&done), 2);
+            assert!(err(&done).contains(sentence), "{}", err(&done));
+            assert!(!saving.is_new());
+            assert_eq!(saving.folder.names(), ["new", "take"]);
+        }
+    };
+    fs::set_permissions(&saving.folder.0, Permissions::from_mode(0o777)).unwrap();
+    fs::set_permissions(saving.take(), Permissions::from_mode(0o444)).unwrap();
+    expect("cannot write to the file: Permission denied");
+    fs::set_permissions(saving.take(), Permissions::from_mode(0o666)).unwrap();
+    fs::set_permissions(&saving.folder.0, Permissions::from_mode(0o555)).unwrap();
+    expect("cannot make a new file in the folder: Permission denied");
+    fs::set_permissions(&saving.folder.0, Permissions::from_mode(0o777)).unwrap();
+    // and with both permissions it is done
+    match attempt() {
+        Err(error) => println!("not tried: {error}"),
+        Ok(done) => assert_eq!((status(&done), saving.is_new()), (0, true)),
+    }
+}
+
+/// What an ended save left is removed. What is no such file, or is in use, is left alone, and the next number is taken.
+#[test]
+fn names_that_are_taken() {
+    let saving = Saving::of("names", 10);
+    let zero = saving.folder.join(".vmd-save-0.tmp");
+    fs::write(&zero, b"left").unwrap();
+    saving.folder.file(".vmd-save-7.tmp", b"left");
+    saving.expect_next_save_works();
+
+    saving.put_back();
+    let lock = File::create(&zero).unwrap();
+    lock.lock().unwrap();
+    assert_eq!(status(&saving.run(&mut vmd())), 0);
+    assert!(saving.is_new());
+    assert_eq!(saving.folder.names(), [".vmd-save-0.tmp", "new", "take"]);
+    drop(lock);
+    saving.expect_next_save_works();
+
+    saving.put_back();
+    fs::create_dir(&zero).unwrap();
+    symlink("new", saving.folder.join(".vmd-save-1.tmp")).unwrap();
+    assert!(Command::new("mkfifo").arg(saving.folder.join(".vmd-save-2.tmp")).status().unwrap().success());
+    assert_eq!(status(&saving.run(&mut vmd())), 0);
+    assert!(saving.is_new());
+    assert_eq!(saving.folder.names(), [".vmd-save-0.tmp", ".vmd-save-1.tmp", ".vmd-save-2.tmp", "new", "take"]);
+    assert!(fs::read(saving.folder.join("new")).unwrap() == saving.new);
+}
+
+/// Many at once, over one take and over others in the same folder.
+#[test]
+fn saves_at_the_same_time() {
+    let saving = Saving::of("many", 300);
+    saving.folder.file(".vmd-save-0.tmp", b"left");
+    let takes: Vec<_> = (0..4).map(|n| saving.folder.file(&format!("other-{n}"), &bones(300, 10 + n))).collect();
+    thread::scope(|scope| {
+        for n in 0..8 {
+            let (saving, takes) = (&saving, &takes);
+            scope.spawn(move || {
+                for round in 0..6 {
+                    let done = vmd().arg("export").args([&takes[(n + round) % 4], &saving.take()]).output().unwrap();
+                    assert_eq!((status(&done), err(&done)), (0, String::new()));
+                    let own = saving.folder.join(&format!("own-{n}"));
+                    let done = vmd().arg("export").args([&takes[n % 4], &own]).output().unwrap();
+                    assert_eq!((status(&done), err(&done)), (0, String::new()));
+                }
+            });
+        }
+    });
+    let found = fs::read(saving.take()).unwrap();
+    assert!(takes.iter().any(|take| fs::read(take).unwrap() == found));
+    assert!((0..8).all(|n| fs::read(saving.folder.join(&format!("own-{n}"))).unwrap() == fs::read(&takes[n % 4]).unwrap()));
+    assert_eq!(saving.litter(), 0);
+}
+
+/// Names of every length that the system allows.
+#[test]
+fn long_names() {
+    let saving = Saving::of("long", 10);
+    let to = saving.folder.join(&"n".repeat(255));
+    assert_eq!(status(&vmd().arg("export").arg(saving.folder.join("new")).arg(&to).output().unwrap()), 0);
+    assert!(fs::read(&to).unwrap() == saving.new);
+}
