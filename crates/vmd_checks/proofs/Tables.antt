@@ -67,10 +67,6 @@ module _ {l : List ℕ} {n : ℕ} where
 
 -- ---- names
 
-pub start-there : (l : List ℕ) (i : ℕ) → 0 < i → getD l (i - 1) 0 ≡ getD {A = ℕ} (0 ∷ l) i 0
-start-there l zero h = absurd (omega arith)
-start-there l (suc i) h = let e : suc i - 1 ≡ i = omega arith in rw e
-
 pub name-there : (s : List ℕ) (at : ℕ) (l : List ℕ) (i : ℕ) → i < length l
     → getD (names-from at l s) i [] ≡ take (getD l i 0 - getD (at ∷ l) i 0) (drop (getD (at ∷ l) i 0) s)
 unfolding names-from

@@ -9,9 +9,8 @@ use vmd_scan::IK_COUNT_OFFSET;
 use vmd_scan::VmdRefusal;
 ghost use mathlib.Core.Path.{_≡_};
 ghost use mathlib.Core.Bool.{true};
-ghost use mathlib.Core.List.{[], _∷_};
 ghost use Prim.Native.Nat.{_+_, _*_, _≤_, _<_};
-ghost use lib.ListN.{length, getD, take, drop};
+ghost use lib.ListN.{length, take, drop};
 ghost use lib.Dec.{eqb};
 ghost use Rattle.vmd_format.specs.Records.{camera, light, self-shadow, ik-state};
 ghost use Rattle.vmd_format.specs.Read.{table};
@@ -59,27 +58,6 @@ fn names_check(bytes: &[u8], ends: &[u32], width: usize) -> Check
         i += 1;
     }
     Check::Passes
-}
-
-// Where a name of a table begins: where the one before it ends.
-fn name_start(ends: &[u32], i: usize) -> usize
-    requires { ⌜ i < length (now ends) ⌝ }
-    ensures { λ r. ⌜ r ≡ getD (0 ∷ now (ends .entry)) i 0 ⌝ }
-{
-    if i == 0 {
-        return 0;
-    }
-    ends[i - 1] as usize
-}
-
-// The name of a table at an index.
-pub fn name_at<'a>(bytes: &'a [u8], ends: &[u32], i: usize) -> &'a [u8]
-    requires { ⌜ (table-right (table-of (now bytes) (now ends)) ≡ true) × (i < length (now ends)) ⌝ }
-    ensures { λ r. ⌜ now r ≡ getD (names-of (table-of (now (bytes .entry)) (now (ends .entry)))) i [] ⌝ }
-{
-    let start = name_start(ends, i);
-    let end = ends[i] as usize;
-    &bytes[start..end]
 }
 
 // ---- record bytes

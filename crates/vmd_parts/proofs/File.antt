@@ -105,6 +105,7 @@ module _ {p : Parts} (c : Checked p) where
   unfolding bone-right bone-check
   bones-fit = record {
     table = c .whole .bone-table;
+    named = c .bone-names;
     framed = c .columns .bone-frames;
     translated = c .columns .bone-translations;
     rotated = c .columns .bone-rotations;
@@ -114,7 +115,7 @@ module _ {p : Parts} (c : Checked p) where
 
   pub morphs-fit : MorphsFit (p .morph-names) (p .morph-name-indices) (p .morph-frames) (p .morph-weights)
   unfolding morph-right morph-check
-  morphs-fit = record { table = c .whole .morph-table; framed = c .columns .morph-frames; weighed = c .columns .morph-weights; right = c .morphs }
+  morphs-fit = record { table = c .whole .morph-table; named = c .morph-names; framed = c .columns .morph-frames; weighed = c .columns .morph-weights; right = c .morphs }
 
   pub records-fit : RecordsFit (p .cameras) (p .lights) (p .self-shadows) (p .properties)
   unfolding take-of-parts

@@ -21,10 +21,11 @@ use Rattle.vmd_format.specs.PartsLaws.{all-at, upto-length, next-passes, need-p
 use Rattle.vmd_bytes.specs.Slices.{splice, part}
 use Rattle.vmd_bytes.proofs.Laws.{splice-nil, part-cons, padded-long}
 use Rattle.vmd_writers.proofs.Sections.{rest-written}
-use Rattle.vmd_checks.specs.Meaning.{bits}
+use Rattle.vmd_checks.specs.Meaning.{table-of, bits}
 use Rattle.vmd_checks.specs.Stages.{bone-right, morph-right}
 use Rattle.vmd_parts.specs.Stages.{BoneThere, bone-bytes, BonesFit, bone-of, MorphsFit, morph-of}
 use Rattle.vmd_checks.proofs.Columns.{bits-at}
+use Rattle.vmd_parts.proofs.Names.{Named, named-from}
 
 -- ---- what the checks say of an index
 
@@ -70,6 +71,14 @@ module _ {t : NameTable} {x f : List ℕ} (w : List Float) (g : MorphsFit t x f 
   pub morph-finite : i < length w → finite (toBits binary32 (getD w i nan)) ≡ true
   unfolding morph-right
   morph-finite k = rw (bits-at w i k) at (need-passes _ not-finite (next-passes morph-here .1))
+
+pub bone-named : {s l x f u r a : List ℕ} {start : ℕ} → BonesFit (table-of s l) x f u r a → (i : ℕ) → i < length x → start ≡ getD {A = ℕ} (0 ∷ l) (getD x i 0) 0
+    → Named s l (getD x i 0) start
+bone-named {s} {l} {x} g i h e = named-from s l (getD x i 0) (g .table) (g .named) (bone-index g i h) e
+
+pub morph-named : {s l x f : List ℕ} {start : ℕ} (w : List Float) → MorphsFit (table-of s l) x f (bits w) → (i : ℕ) → i < length x → start ≡ getD {A = ℕ} (0 ∷ l) (getD x i 0) 0
+    → Named s l (getD x i 0) start
+morph-named {s} {l} {x} w g i h e = named-from s l (getD x i 0) (g .table) (g .named) (morph-index w g i h) e
 
 -- ---- the bytes of a record
 

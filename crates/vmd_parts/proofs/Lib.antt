@@ -1,4 +1,5 @@
 pub mod Size
+pub mod Names
 pub mod Writing
 pub mod Filling
 pub mod File

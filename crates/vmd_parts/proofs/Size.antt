@@ -51,6 +51,7 @@ properties-total s e =
 pub record Checked (p : Parts) : Type 0 where
   pub whole : Whole (p .bone-names) (p .morph-names) (p .cameras) (p .lights) (p .self-shadows) (p .properties)
   pub bone-names : each (name-check 15) (names-of (p .bone-names)) ≡ passes
+  pub morph-names : each (name-check 15) (names-of (p .morph-names)) ≡ passes
   pub columns : Columns p
   pub counts : Counts (take-of-parts p)
   pub bones : each (bone-check p) (upto 0 (length (p .bone-name-indices))) ≡ passes
@@ -73,6 +74,7 @@ checked p e =
     record {
       whole = whole-are _ _ _ _ _ _ (need-passes _ parts-not-whole (whole-same p ∙ a .0));
       bone-names = c .0;
+      morph-names = d .0;
       columns = columns-pass p (j .0);
       counts = counts-pass p (k .0);
       bones = l .0;

@@ -19,7 +19,7 @@ use Rattle.vmd_format.specs.Places.{Reaches}
 use Rattle.vmd_format.specs.PlacesLaws.{table-length, frames-in}
 use Rattle.vmd_format.specs.Parts.{finite, all-finite, records-of, frames, properties-of, is-got}
 use Rattle.vmd_bytes.specs.Slices.{splice, part}
-use Rattle.vmd_bytes.proofs.Laws.{splice-nil, splice-append-at, length-u32-bytes, length-part}
+use Rattle.vmd_bytes.proofs.Laws.{splice-nil, splice-append-at, length-u32-bytes, length-part, part-add}
 use Rattle.vmd_writers.proofs.Sections.{Sized, rest-written}
 use Rattle.vmd_checks.specs.Meaning.{bits}
 use Rattle.vmd_parts.specs.Stages.{BoneThere, bone-bytes}
@@ -27,6 +27,7 @@ use Rattle.vmd_checks.proofs.Columns.{bits-cons}
 use Rattle.vmd_checks.proofs.Properties.{properties-framed}
 use Rattle.vmd_checks.proofs.Whole.{records-length}
 use Rattle.vmd_parts.proofs.Size.{properties-total}
+use Rattle.vmd_parts.proofs.Names.{number-over}
 
 -- ---- the header
 
@@ -85,25 +86,32 @@ module _ {xs : List Float} {at n : ℕ} {out₀ : List ℕ} {to : ℕ} where
   unfolding write-all
   pouring-end {out} {p} {q} g e = sym (splice-nil out q) ∙ rw e at (g .whole)
 
+-- ---- copies one after another
+
+pub copied-on : {x o : List ℕ} (s : List ℕ) (at : ℕ) (l : List ℕ) (to n m : ℕ) → at + n ≤ length s → to + n ≤ length l
+    → x ≡ splice l to (part s at n) → o ≡ splice x (to + n) (part s (at + n) m) → o ≡ splice l to (part s at (n + m))
+copied-on s at l to n m h r e f =
+    f ∙ rw e (splice-append-at l to (part s at n) (part s (at + n) m) n (length-part s at n h) r ∙ ap (splice l to) (sym (part-add s at n m)))
+
 -- ---- fields one after another
 
--- a name, a number and then more
+-- a name in two words, a number over the last byte of them, and then more
 named-at : {x y o : List ℕ} (s : List ℕ) (v : ℕ) (u l : List ℕ) (to : ℕ) → to + 19 ≤ length l
-    → x ≡ splice l to (padded 15 s) → y ≡ splice x (to + 15) (u32-bytes v) → o ≡ splice y (to + 19) u
+    → x ≡ splice l to (padded 16 s) → y ≡ splice x (to + 15) (u32-bytes v) → o ≡ splice y (to + 19) u
     → o ≡ splice l to (padded 15 s ++ (u32-bytes v ++ u))
 named-at s v u l to h e f g =
     let k : length (padded 15 s ++ u32-bytes v) ≡ 19 = length-append (padded 15 s) (u32-bytes v) ∙ omega (arith, padded-length 15 s, length-u32-bytes v) in
     g
-    ∙ rw (f, e, splice-append-at l to (padded 15 s) (u32-bytes v) 15 (padded-length 15 s) (omega arith), splice-append-at l to (padded 15 s ++ u32-bytes v) u 19 k h)
+    ∙ rw (number-over s v l to h e f, splice-append-at l to (padded 15 s ++ u32-bytes v) u 19 k h)
     (ap (splice l to) (append-assoc (padded 15 s) (u32-bytes v) u))
 
 pub morph-written : {x y o : List ℕ} {b : ℕ} (s : List ℕ) (v : ℕ) (w : Float) (l : List ℕ) (to : ℕ) → to + 23 ≤ length l
-    → x ≡ splice l to (padded 15 s) → y ≡ splice x (to + 15) (u32-bytes v) → b ≡ toBits binary32 w → o ≡ splice y (to + 19) (u32-bytes b)
+    → x ≡ splice l to (padded 16 s) → y ≡ splice x (to + 15) (u32-bytes v) → b ≡ toBits binary32 w → o ≡ splice y (to + 19) (u32-bytes b)
     → o ≡ splice l to (padded 15 s ++ (u32-bytes v ++ u32-bytes (toBits binary32 w)))
 morph-written s v w l to h e f q g = named-at s v (u32-bytes (toBits binary32 w)) l to (omega arith) e f (g ∙ rw q)
 
 pub bone-written : {x y z w o : List ℕ} (s : List ℕ) (v : ℕ) (t r a : List ℕ) (i : ℕ) (l : List ℕ) (to : ℕ) → BoneThere t r a i → to + 111 ≤ length l
-    → x ≡ splice l to (padded 15 s) → y ≡ splice x (to + 15) (u32-bytes v) → z ≡ splice y (to + 19) (write-all u32-bytes (take 3 (drop (3 * i) t)))
+    → x ≡ splice l to (padded 16 s) → y ≡ splice x (to + 15) (u32-bytes v) → z ≡ splice y (to + 19) (write-all u32-bytes (take 3 (drop (3 * i) t)))
     → w ≡ splice z (to + 31) (write-all u32-bytes (take 4 (drop (4 * i) r))) → o ≡ splice w (to + 47) (part a (64 * i) 64)
     → length y ≡ length l
     → o ≡ splice l to (bone-bytes s v t r a i)

@@ -11,7 +11,7 @@ use Rattle.vmd_format.specs.Answer.{Answer, given, unless}
 use Rattle.vmd_format.specs.Read.{fixed, write-all, write-counted}
 use Rattle.vmd_format.specs.Take.{property, write-header}
 use Rattle.vmd_format.specs.Records.{Bone, Morph, bone, morph, camera, light, self-shadow}
-use Rattle.vmd_format.specs.Parts.{NameTable, passes, each, finite, all-finite, names-of, records-of, frames, properties-of, upto, table-right, is-got}
+use Rattle.vmd_format.specs.Parts.{NameTable, passes, each, finite, all-finite, names-of, records-of, frames, properties-of, upto, table-right, is-got, name-check}
 use Rattle.vmd_checks.specs.Stages.{bone-right, morph-right}
 
 -- ---- the size
@@ -38,6 +38,7 @@ bone-bytes name frame translations rotations interpolations i =
 -- the columns of bones as the checks let them through, and the bone at an index
 pub record BonesFit (t : NameTable) (indices frames translations rotations interpolations : List ℕ) : Type 0 where
   pub table : table-right t ≡ true
+  pub named : each (name-check 15) (names-of t) ≡ passes
   pub framed : length frames ≡ length indices
   pub translated : length translations ≡ 3 * length indices
   pub rotated : length rotations ≡ 4 * length indices
@@ -61,6 +62,7 @@ bone-of t indices frames translations rotations interpolations i = record {
 -- the same of morphs
 pub record MorphsFit (t : NameTable) (indices frames weights : List ℕ) : Type 0 where
   pub table : table-right t ≡ true
+  pub named : each (name-check 15) (names-of t) ≡ passes
   pub framed : length frames ≡ length indices
   pub weighed : length weights ≡ length indices
   pub right : each (morph-right indices (length (t .ends)) weights) (upto 0 (length indices)) ≡ passes

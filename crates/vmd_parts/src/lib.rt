@@ -11,10 +11,11 @@ use vmd_scan::MAGIC_SIZE;
 use vmd_scan::VMD_MAGIC;
 use vmd_scan::VmdRefusal;
 ghost use mathlib.Core.Path.{_≡_};
-ghost use mathlib.Core.Bool.{true};
-ghost use mathlib.Core.List.{_++_, map};
-ghost use Prim.Native.Nat.{_+_, _*_, _/_, _≤_};
-ghost use lib.ListN.{length, take, drop};
+ghost use mathlib.Core.Bool.{true, cond};
+ghost use mathlib.Core.List.{_∷_, _++_, map};
+ghost use Prim.Native.Nat.{_+_, _-_, _*_, _/_, _≤_, _<_};
+ghost use lib.ListN.{length, getD, take, drop};
+ghost use lib.Dec.{eqb};
 ghost use lib.Ieee.{binary32, toBits};
 ghost use Rattle.vmd_format.specs.Bytes.{u32-bytes, padded};
 ghost use Rattle.vmd_format.specs.Records.{bone, morph, camera, light, self-shadow};
@@ -22,7 +23,8 @@ ghost use Rattle.vmd_format.specs.Read.{fixed, write-all, write-counted};
 ghost use Rattle.vmd_format.specs.Take.{property, write-header};
 ghost use Rattle.vmd_format.specs.Parts.{records-of, is-got, frames, properties-of, finite, all-finite, upto, build};
 ghost use Rattle.vmd_format.specs.Answer.{fitted, map-answer, left};
-ghost use Rattle.vmd_bytes.specs.Slices.{splice};
+ghost use Rattle.vmd_bytes.specs.Slices.{splice, part};
+ghost use Rattle.vmd_bytes.specs.Words.{digits};
 ghost use Rattle.vmd_checks.specs.Meaning.{table-of, bits, parts-of};
 ghost use Rattle.vmd_parts.specs.Meaning.{built-answer};
 ghost use Rattle.vmd_parts.specs.Stages.{within, BoneThere, bone-bytes, BonesFit, bone-of, MorphsFit, morph-of, front-bytes, RecordsFit, back-bytes};
@@ -37,10 +39,10 @@ const LIGHT_SIZE: usize = VmdParsedLightFrame::SIZE;
 
 const SELF_SHADOW_SIZE: usize = VmdParsedSelfShadowFrame::SIZE;
 
-// The names of a model, of a bone or a morph, and of an IK state.
 const MODEL_NAME_SIZE: usize = 20;
 
-const NAME_SIZE: usize = 15;
+// The name of a bone or a morph with the byte after it, which is two words.
+const NAME_WORDS: usize = 16;
 
 // The count before a section's records.
 const COUNT_SIZE: usize = 4;
@@ -148,6 +150,64 @@ fn write_header(model_name: &[u8], out: &mut [u8])
     vmd_bytes::write_fixed_bytes(model_name, out, MAGIC_SIZE, MODEL_NAME_SIZE);
 }
 
+// The n lowest bytes of a word, and zeros above them. A shift by all of a word's bits is undefined, so the mask is shifted
+// twice, by half each time.
+fn low_bytes(x: u64, n: usize) -> u64
+    requires { ⌜ n ≤ 8 ⌝ }
+    ensures { λ r. ⌜ digits 8 r ≡ padded 8 (take n (digits 8 x)) ⌝ }
+{
+    let half = 4 * (8 - n);
+    x & (0xffff_ffff_ffff_ffff >> half >> half)
+}
+
+// How many of n bytes lie past the first word.
+fn past_word(n: usize) -> usize
+    ensures { λ r. ⌜ r ≡ n - 8 ⌝ }
+{
+    if n < 8 { 0 } else { n - 8 }
+}
+
+// Writes the n bytes of a name at a place of a table, and then zeros to two words. Names end anywhere, so it does not branch
+// on the length, but where the table has fewer than two words from that place on.
+fn write_table_name(bytes: &[u8], start: usize, n: usize, out: &mut [u8], to: usize)
+    requires { ⌜ (n ≤ 15) × (start + n ≤ length (now bytes)) × (to + 16 ≤ length (now out)) ⌝ }
+    ensures { λ _. ⌜ now (out .exit) ≡ splice (now (out .entry)) to (padded 16 (part (now (bytes .entry)) start n)) ⌝ }
+{
+    if bytes.len() - start < NAME_WORDS {
+        let end = start + n;
+        vmd_bytes::write_fixed_bytes(&bytes[start..end], out, to, NAME_WORDS);
+        return;
+    }
+    let past = past_word(n);
+    let low = low_bytes(vmd_bytes::word_at(bytes, start), n - past);
+    let high = low_bytes(vmd_bytes::word_at(bytes, start + 8), past);
+    vmd_bytes::put_word(out, to, low);
+    vmd_bytes::put_word(out, to + 8, high);
+}
+
+// The index before i, or the first.
+fn index_before(i: usize) -> usize
+    ensures { λ r. ⌜ r ≡ i - 1 ⌝ }
+{
+    if i == 0 { 0 } else { i - 1 }
+}
+
+// x, or 0 for the first index.
+fn unless_first(i: usize, x: usize) -> usize
+    ensures { λ r. ⌜ r ≡ cond (eqb i 0) 0 x ⌝ }
+{
+    if i == 0 { 0 } else { x }
+}
+
+// Where a name of a table begins: where the one before it ends. An end is read for the first name too, so as not to branch.
+fn name_start(ends: &[u32], i: usize) -> usize
+    requires { ⌜ i < length (now ends) ⌝ }
+    ensures { λ r. ⌜ r ≡ getD (0 ∷ now (ends .entry)) i 0 ⌝ }
+{
+    let end = ends[index_before(i)] as usize;
+    unless_first(i, end)
+}
+
 // Writes n floats of a column from a place on.
 fn write_floats(xs: &[f32], at: usize, n: usize, out: &mut [u8], to: usize)
     requires { ⌜ (at + n ≤ length (now xs)) × (to + n * 4 ≤ length (now out)) × (all-finite (take n (drop at (bits (now xs)))) ≡ true) ⌝ }
@@ -165,9 +225,32 @@ fn write_floats(xs: &[f32], at: usize, n: usize, out: &mut [u8], to: usize)
     }
 }
 
-// The fields of a bone: its name, and the others at an index of their columns.
+// Copies four words.
+fn copy_four_words(src: &[u8], at: usize, out: &mut [u8], to: usize)
+    requires { ⌜ (at + 32 ≤ length (now src)) × (to + 32 ≤ length (now out)) ⌝ }
+    ensures { λ _. ⌜ now (out .exit) ≡ splice (now (out .entry)) to (part (now (src .entry)) at 32) ⌝ }
+{
+    vmd_bytes::copy_word(src, at, out, to);
+    vmd_bytes::copy_word(src, at + 8, out, to + 8);
+    vmd_bytes::copy_word(src, at + 16, out, to + 16);
+    vmd_bytes::copy_word(src, at + 24, out, to + 24);
+}
+
+// Copies the 64 interpolation bytes of a bone by words: the compiler leaves a loop over so few bytes as single bytes.
+fn copy_interpolation(src: &[u8], at: usize, out: &mut [u8], to: usize)
+    requires { ⌜ (at + 64 ≤ length (now src)) × (to + 64 ≤ length (now out)) ⌝ }
+    ensures { λ _. ⌜ now (out .exit) ≡ splice (now (out .entry)) to (part (now (src .entry)) at 64) ⌝ }
+{
+    copy_four_words(src, at, out, to);
+    copy_four_words(src, at + 32, out, to + 32);
+}
+
+// The fields of a bone: its name, n bytes at a place of the table's, and the others at an index of their columns. The frame
+// is written over the last byte of the name's words.
 fn write_bone_frame(
-    name: &[u8],
+    names: &[u8],
+    start: usize,
+    n: usize,
     frame: u32,
     translations: &[f32],
     rotations: &[f32],
@@ -176,22 +259,30 @@ fn write_bone_frame(
     out: &mut [u8],
     to: usize,
 )
-    requires { ⌜ BoneThere (bits (now translations)) (bits (now rotations)) (now interpolations) i × (to + 111 ≤ length (now out)) ⌝ }
-    ensures { λ _. ⌜ now (out .exit) ≡ splice (now (out .entry)) to (bone-bytes (now (name .entry)) frame (bits (now (translations .entry))) (bits (now (rotations .entry))) (now (interpolations .entry)) i) ⌝ }
+    requires { ⌜ (n ≤ 15) × (start + n ≤ length (now names)) × BoneThere (bits (now translations)) (bits (now rotations)) (now interpolations) i × (to + 111 ≤ length (now out)) ⌝ }
+    ensures { λ _. ⌜ now (out .exit) ≡ splice (now (out .entry)) to (bone-bytes (part (now (names .entry)) start n) frame (bits (now (translations .entry))) (bits (now (rotations .entry))) (now (interpolations .entry)) i) ⌝ }
 {
-    vmd_bytes::write_fixed_bytes(name, out, to, NAME_SIZE);
+    write_table_name(names, start, n, out, to);
     vmd_bytes::write_u32_le(out, to + 15, frame);
     write_floats(translations, 3 * i, 3, out, to + 19);
     write_floats(rotations, 4 * i, 4, out, to + 31);
-    vmd_bytes::copy_bytes(interpolations, 64 * i, out, to + 47, 64);
+    copy_interpolation(interpolations, 64 * i, out, to + 47);
 }
 
 // The fields of a morph.
-fn write_morph_frame(name: &[u8], frame: u32, weight: f32, out: &mut [u8], to: usize)
-    requires { ⌜ (finite (toBits binary32 weight) ≡ true) × (to + 23 ≤ length (now out)) ⌝ }
-    ensures { λ _. ⌜ now (out .exit) ≡ splice (now (out .entry)) to (padded 15 (now (name .entry)) ++ (u32-bytes frame ++ u32-bytes (toBits binary32 weight))) ⌝ }
+fn write_morph_frame(
+    names: &[u8],
+    start: usize,
+    n: usize,
+    frame: u32,
+    weight: f32,
+    out: &mut [u8],
+    to: usize,
+)
+    requires { ⌜ (n ≤ 15) × (start + n ≤ length (now names)) × (finite (toBits binary32 weight) ≡ true) × (to + 23 ≤ length (now out)) ⌝ }
+    ensures { λ _. ⌜ now (out .exit) ≡ splice (now (out .entry)) to (padded 15 (part (now (names .entry)) start n) ++ (u32-bytes frame ++ u32-bytes (toBits binary32 weight))) ⌝ }
 {
-    vmd_bytes::write_fixed_bytes(name, out, to, NAME_SIZE);
+    write_table_name(names, start, n, out, to);
     vmd_bytes::write_u32_le(out, to + 15, frame);
     vmd_bytes::write_u32_le(out, to + 19, vmd_bytes::float_to_bits(weight));
 }
@@ -253,9 +344,13 @@ fn write_bone_frames(
     let mut i = 0;
     let mut q = to;
     while i < indices.len() {
-        let name = vmd_checks::name_at(bone_name_bytes, bone_name_ends, indices[i] as usize);
+        let name = indices[i] as usize;
+        let start = name_start(bone_name_ends, name);
+        let n = bone_name_ends[name] as usize - start;
         write_bone_frame(
-            name,
+            bone_name_bytes,
+            start,
+            n,
             frames[i],
             translations,
             rotations,
@@ -286,8 +381,10 @@ fn write_morph_frames(
     let mut i = 0;
     let mut q = to;
     while i < indices.len() {
-        let name = vmd_checks::name_at(morph_name_bytes, morph_name_ends, indices[i] as usize);
-        write_morph_frame(name, frames[i], weights[i], out, q);
+        let name = indices[i] as usize;
+        let start = name_start(morph_name_ends, name);
+        let n = morph_name_ends[name] as usize - start;
+        write_morph_frame(morph_name_bytes, start, n, frames[i], weights[i], out, q);
         q += MORPH_SIZE;
         i += 1;
     }

@@ -1,5 +1,5 @@
 // Replays the cases on standard input, each with what the Rust original gave, and prints how many there are of each kind and
-// how many come out otherwise.
+// how many come out otherwise. oracle/samples.sh writes the cases (the file stdin) anew; oracle/README.md has their format.
 mod built;
 mod cases;
 mod digest;

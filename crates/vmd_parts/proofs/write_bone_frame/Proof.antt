@@ -2,6 +2,7 @@
 use mathlib.Core.Path.{_∙_}
 use native.Mathlib.Omega.{arith}
 use borrow.Author.Needs.{needs}
+use Rattle.vmd_bytes.specs.Slices.{part}
 use Rattle.vmd_parts.specs.Stages.{BoneThere}
 use Rattle.vmd_parts.proofs.Writing.{bone-written, bits-length}
 use Rattle.vmd_parts.proofs.write_bone_frame.Statement.{statement}
@@ -16,41 +17,46 @@ returns c =
     let n = v .before .before .before .before in
     let s = n .before .before .before .before .before .before .before in
     let a = s .args in
-    bone-written (a .name .now) (a .frame) _ _ (a .interpolations .now) (a .i) (a .out .now) (a .to) (s .pre .0) (omega arith)
-    (n .write-fixed-bytes .ensures) (v .write-u32-le .ensures) (t .write-floats .ensures) (r .write-floats2 .ensures) (k .copy-bytes .ensures)
-    (v .write-u32-le .kept .0 ∙ n .write-fixed-bytes .kept .1 .0)
+    bone-written (part (a .names .now) (a .start) (a .n)) (a .frame) _ _ (a .interpolations .now) (a .i) (a .out .now) (a .to) (s .pre .2) (s .pre .3)
+    (n .write-table-name .ensures) (v .write-u32-le .ensures) (t .write-floats .ensures) (r .write-floats2 .ensures) (k .copy-interpolation .ensures)
+    (v .write-u32-le .kept .0 ∙ n .write-table-name .kept .1 .1 .1 .0)
 
 write-floats-requires : tie.Need-write-floats-requires
 write-floats-requires c κs =
     let s = c .before .before .before .before .before .before .before .before .before .before .before .before .before .before in
-    (omega (arith, s .pre .0 .translation, bits-length (s .args .translations .now)), omega arith, s .pre .0 .translation-finite)
+    (omega (arith, s .pre .2 .translation, bits-length (s .args .translations .now)), omega arith, s .pre .2 .translation-finite)
 
 write-floats-requires-2 : tie.Need-write-floats-requires-2
 write-floats-requires-2 c κs =
     let s = c .before .before .before .before .before .before .before .before .before .before .before .before .before .before .before .before .before .before in
-    (omega (arith, s .pre .0 .rotation, bits-length (s .args .rotations .now)), omega arith, s .pre .0 .rotation-finite)
+    (omega (arith, s .pre .2 .rotation, bits-length (s .args .rotations .now)), omega arith, s .pre .2 .rotation-finite)
 
 mul-write-floats : tie.Need-mul-write-floats
 mul-write-floats c =
     let s = c .before .before .before .before .before .before .before .before .before .before .before .before .before in
-    omega (arith, s .pre .0 .translation, bits-length (s .args .translations .now))
+    omega (arith, s .pre .2 .translation, bits-length (s .args .translations .now))
 
 mul-write-floats-2 : tie.Need-mul-write-floats-2
 mul-write-floats-2 c =
     let s = c .before .before .before .before .before .before .before .before .before .before .before .before .before .before .before .before .before in
-    omega (arith, s .pre .0 .rotation, bits-length (s .args .rotations .now))
+    omega (arith, s .pre .2 .rotation, bits-length (s .args .rotations .now))
 
-mul-copy-bytes : tie.Need-mul-copy-bytes
-mul-copy-bytes c =
+mul-copy-interpolation : tie.Need-mul-copy-interpolation
+mul-copy-interpolation c =
     let s = c .before .before .before .before .before .before .before .before .before .before .before .before .before .before .before .before .before .before .before .before .before in
-    omega (arith, s .pre .0 .interpolation)
+    omega (arith, s .pre .2 .interpolation)
 
-copy-bytes-requires : tie.Need-copy-bytes-requires
-copy-bytes-requires c κs =
+add-copy-interpolation : tie.Need-add-copy-interpolation
+add-copy-interpolation c =
     let s = c .before .before .before .before .before .before .before .before .before .before .before .before .before .before .before .before .before .before .before .before .before .before in
-    (omega (arith, s .pre .0 .interpolation), omega arith)
+    omega (arith, s .pre .3)
+
+copy-interpolation-requires : tie.Need-copy-interpolation-requires
+copy-interpolation-requires c κs =
+    let s = c .before .before .before .before .before .before .before .before .before .before .before .before .before .before .before .before .before .before .before .before .before .before in
+    (omega (arith, s .pre .2 .interpolation), omega (arith, s .pre .3))
 
 pub write-bone-frame-spec : {M : Type 1} → statement M
 write-bone-frame-spec =
     tie.close (tie.spec (λ c κs. search needs) (λ c. search needs) (λ c κs. search needs) mul-write-floats (λ c. search needs) write-floats-requires mul-write-floats-2 (λ c. search needs) write-floats-requires-2
-    mul-copy-bytes (λ c. search needs) copy-bytes-requires (λ c. search needs) returns)
+    mul-copy-interpolation add-copy-interpolation copy-interpolation-requires (λ c. search needs) returns)

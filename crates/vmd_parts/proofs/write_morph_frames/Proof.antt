@@ -1,14 +1,14 @@
 -- `vmd_parts::write_morph_frames` meets its contract. Assumes nothing.
 use Prim.Native.Nat.{_-_}
 use native.Mathlib.Omega.{arith}
-use lib.ListN.{length}
+use lib.ListN.{length, getD}
 use borrow.Author.Needs.{needs}
 use Rattle.vmd_format.specs.Records.{morph}
 use Rattle.vmd_writers.proofs.Sections.{morph-sized}
 use Rattle.vmd_checks.specs.Meaning.{table-of, bits}
 use Rattle.vmd_parts.specs.Stages.{MorphsFit, morph-of}
 use Rattle.vmd_parts.proofs.Writing.{bits-length}
-use Rattle.vmd_parts.proofs.Filling.{Filling, filling-start, filling-room, filling-turn, filling-end, morph-index, morph-finite, morph-is}
+use Rattle.vmd_parts.proofs.Filling.{Filling, filling-start, filling-room, filling-turn, filling-end, morph-index, morph-finite, morph-named, morph-is}
 use Rattle.vmd_parts.proofs.write_morph_frames.Statement.{statement}
 use Rattle.vmd_parts.proofs.write_morph_frames.Tie as tie
 
@@ -19,20 +19,37 @@ Inv-loop bytes ends indices frames weights out₀ to i₀ q₀ out i q =
 abbrev μ-loop : tie.MeasureT-loop
 μ-loop bytes ends indices frames weights out₀ to i₀ q₀ out i q = length indices - i
 
-name-at-requires : tie.Need-name-at-requires Inv-loop μ-loop
-name-at-requires c κs =
+name-start-requires : tie.Need-name-start-requires Inv-loop μ-loop
+name-start-requires c κs =
     let l = c .before .before in
     let s = l .before .before .before .before .before .before .before in
-    (s .pre .0 .table, morph-index (s .args .weights .now) (s .pre .0) (l .loop .i) (omega arith))
+    morph-index (s .args .weights .now) (s .pre .0) (l .loop .i) (omega arith)
+
+shared-slice-read-n : tie.Need-shared-slice-read-n Inv-loop μ-loop
+shared-slice-read-n c =
+    let l = c .before .before .before .before in
+    let s = l .before .before .before .before .before .before .before in
+    omega (arith, morph-index (s .args .weights .now) (s .pre .0) (l .loop .i) (omega arith))
+
+cast-n : tie.Need-cast-n Inv-loop μ-loop
+cast-n c =
+    let l = c .before .before .before .before in
+    omega (arith, c .shared-slice-known7 .given (getD (l .before .before .before .before .before .before .before .args .indices .now) (l .loop .i) 0))
+
+sub-n : tie.Need-sub-n Inv-loop μ-loop
+sub-n c =
+    let l = c .before .before .before .before in
+    let s = l .before .before .before .before .before .before .before in
+    morph-named (s .args .weights .now) (s .pre .0) (l .loop .i) (omega arith) (c .before .name-start .ensures) .begins
 
 shared-slice-read-write-morph-frame : tie.Need-shared-slice-read-write-morph-frame Inv-loop μ-loop
 shared-slice-read-write-morph-frame c =
-    let s = c .before .before .before .before .before .before .before .before .before .before .before in
+    let s = c .before .before .before .before .before .before .before .before .before .before .before .before in
     omega (arith, s .pre .0 .framed)
 
 shared-slice-read-write-morph-frame-2 : tie.Need-shared-slice-read-write-morph-frame-2 Inv-loop μ-loop
 shared-slice-read-write-morph-frame-2 c =
-    let s = c .before .before .before .before .before .before .before .before .before .before .before .before in
+    let s = c .before .before .before .before .before .before .before .before .before .before .before .before .before in
     omega (arith, s .pre .0 .weighed, bits-length (s .args .weights .now))
 
 mul-write-morph-frame-2 : tie.Need-mul-write-morph-frame-2 Inv-loop μ-loop
@@ -40,8 +57,12 @@ mul-write-morph-frame-2 c = omega arith
 
 write-morph-frame-requires : tie.Need-write-morph-frame-requires Inv-loop μ-loop
 write-morph-frame-requires c κs =
-    let l = c .before .before .before .before .before .before in
-    let s = l .before .before .before .before .before .before .before in (
+    let n = c .before .before .before .before in
+    let l = n .before .before .before in
+    let s = l .before .before .before .before .before .before .before in
+    let d = morph-named (s .args .weights .now) (s .pre .0) (l .loop .i) (omega arith) (n .name-start .ensures) in (
+      d .short,
+      omega (arith, d .begins, d .within),
       morph-finite (s .args .weights .now) (s .pre .0) (l .loop .i) (omega arith) (omega (arith, s .pre .0 .weighed, bits-length (s .args .weights .now))),
       filling-room (l .loop .inv) (omega arith),
     )
@@ -49,17 +70,18 @@ write-morph-frame-requires c κs =
 loop-again : tie.Need-loop-again Inv-loop μ-loop
 loop-again c =
     let w = c .before .before in
-    let n = w .before .before .before .before in
+    let n = w .before .before .before .before .before in
     let l = n .before .before .before in
     let s = l .before .before .before .before .before .before .before in
     let a = s .args in
-    filling-turn (l .loop .inv) (omega arith) (morph-sized .wide _) (w .write-morph-frame .kept .1 .1 .1 .0) (w .write-morph-frame .ensures)
+    filling-turn (l .loop .inv) (omega arith) (morph-sized .wide _) (w .write-morph-frame .kept .1 .1 .1 .1 .1 .0) (w .write-morph-frame .ensures)
     (morph-is (table-of (a .morph-name-bytes .now) (a .morph-name-ends .now)) (a .indices .now) (a .frames .now) (a .weights .now) (l .loop .i)
-    (omega (arith, s .pre .0 .weighed, bits-length (a .weights .now))) (n .name-at .ensures))
+    (omega (arith, s .pre .0 .weighed, bits-length (a .weights .now))) (morph-named (a .weights .now) (s .pre .0) (l .loop .i) (omega arith) (n .name-start .ensures) .is))
 
 pub write-morph-frames-spec : {M : Type 1} → statement M
 write-morph-frames-spec =
-    tie.close (tie.spec Inv-loop μ-loop (λ c. filling-start (omega arith)) (λ c. search needs) (λ c. search needs) (λ c. omega (arith, c .shared-slice-known6 .given (c .before .before .loop .i))) name-at-requires (λ c. omega arith)
+    tie.close (tie.spec Inv-loop μ-loop (λ c. filling-start (omega arith)) (λ c. search needs) (λ c. search needs) (λ c. omega (arith, c .shared-slice-known6 .given (c .before .before .loop .i))) name-start-requires
+    (λ c. omega (arith, c .before .shared-slice-known6 .given (c .before .before .before .loop .i))) shared-slice-read-n cast-n sub-n (λ c. omega arith)
     shared-slice-read-write-morph-frame mul-write-morph-frame-2 shared-slice-read-write-morph-frame-2 write-morph-frame-requires
-    (λ c. omega (arith, filling-room (c .before .before .before .before .before .before .before .before .before .loop .inv) (omega arith))) (λ c. search needs) (λ c. omega arith) loop-again
+    (λ c. omega (arith, filling-room (c .before .before .before .before .before .before .before .before .before .before .loop .inv) (omega arith))) (λ c. search needs) (λ c. omega arith) loop-again
     (λ c. c .before .loop .inv .kept) (λ c. filling-end (c .before .loop .inv) (c .loop-test .left)))
