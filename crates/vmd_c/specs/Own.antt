@@ -4,27 +4,16 @@ use mathlib.Core.Path.{_≡_, refl}
 use Rattle.vmd_format.specs.Opening.{Opening}
 use Rattle.vmd_c.specs.Meaning.{counts-of, places-of, part-at, scan-at}
 
-module _ (o : Opening) where
-  pub own-bones : scan-at (counts-of o) (places-of o) .bones ≡ o .scan .bones
-  unfolding counts-of places-of part-at scan-at
-  own-bones = refl
-
-  pub own-morphs : scan-at (counts-of o) (places-of o) .morphs ≡ o .scan .morphs
-  unfolding counts-of places-of part-at scan-at
-  own-morphs = refl
-
-  pub own-cameras : scan-at (counts-of o) (places-of o) .cameras ≡ o .scan .cameras
-  unfolding counts-of places-of part-at scan-at
-  own-cameras = refl
-
-  pub own-lights : scan-at (counts-of o) (places-of o) .lights ≡ o .scan .lights
-  unfolding counts-of places-of part-at scan-at
-  own-lights = refl
-
-  pub own-self-shadows : scan-at (counts-of o) (places-of o) .self-shadows ≡ o .scan .self-shadows
-  unfolding counts-of places-of part-at scan-at
-  own-self-shadows = refl
-
-  pub own-properties : scan-at (counts-of o) (places-of o) .properties ≡ o .scan .properties
-  unfolding counts-of places-of part-at scan-at
-  own-properties = refl
+pub own-sections : (o : Opening)
+    → scan-at (counts-of o) (places-of o)
+    ≡ record {
+      bones = o .scan .bones;
+      morphs = o .scan .morphs;
+      cameras = o .scan .cameras;
+      lights = o .scan .lights;
+      self-shadows = o .scan .self-shadows;
+      properties = o .scan .properties;
+      ik-states = 0;
+    }
+unfolding counts-of places-of part-at scan-at
+own-sections o = refl

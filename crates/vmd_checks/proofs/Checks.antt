@@ -1,8 +1,8 @@
 -- Laws of checks one after another. Assumes nothing.
-use mathlib.Core.Path.{_≡_, refl, sym, _∙_}
+use mathlib.Core.Path.{_≡_, sym, _∙_}
 use mathlib.Core.Bool.{Bool, true, false, _&&_}
 use Rattle.vmd_format.specs.Refusal.{Refusal}
-use Rattle.vmd_format.specs.Parts.{Check, passes, fails, _next_, need, each}
+use Rattle.vmd_format.specs.Parts.{Check, passes, fails, _next_, need}
 
 -- the first check fails, or passes and leaves the others
 pub next-fails : {c : Check} {k : Refusal} (d : Check) → c ≡ fails k → (c next d) ≡ fails k

@@ -11,7 +11,7 @@ use lib.ListN.{length, getD, take, drop, length-map, List·getD-map}
 use lib.Seq.{drop-cons}
 use lib.Dec.{eqb, ltb}
 use lib.Ieee.{Float, nan, binary32, toBits}
-use Rattle.vmd_format.specs.Refusal.{Refusal, name-index-too-large, not-finite}
+use Rattle.vmd_format.specs.Refusal.{Refusal, name-index-too-large}
 use Rattle.vmd_format.specs.Parts.{Check, passes, fails, _next_, need, each, finite, all-finite, upto}
 use Rattle.vmd_checks.specs.Meaning.{bits}
 use Rattle.vmd_checks.proofs.Checks.{next-fails, next-on}

@@ -1,6 +1,6 @@
 -- Laws of property frames until the end of the bytes, for code that walks over them. Assumes nothing.
 use Prim.Native.Nat.{ℕ, zero, suc, _+_, _-_, _*_, _≤_, _<_}
-use mathlib.Core.Path.{_≡_, refl, ap, sym, _∙_, subst}
+use mathlib.Core.Path.{_≡_, refl, ap, sym, _∙_}
 use mathlib.Core.Bool.{Bool, true, false}
 use mathlib.Core.List.{List, [], _∷_}
 use native.Mathlib.Numerals.{add-one}
@@ -19,7 +19,7 @@ use Rattle.vmd_format.specs.Places.{Walk, walk, next-frame, Reaches}
 use Rattle.vmd_format.specs.PlacesLaws.{property-in, frames-in, WalkAgrees, walk-agrees, walk-done, walk-short, walk-over, walk-next}
 use Rattle.vmd_format.specs.ScanLaws.{frames-length}
 use Rattle.vmd_format.specs.Parts.{Check, passes, fails, _next_, each, at-end, until-end, frames, frames-or-none, properties-of, is-got, ik-check, property-check}
-use Rattle.vmd_checks.specs.Stages.{Counted, not-whole, whole, counted}
+use Rattle.vmd_checks.specs.Stages.{not-whole, whole, counted}
 use Rattle.vmd_checks.proofs.Checks.{next-fails, next-on}
 
 -- ---- one frame

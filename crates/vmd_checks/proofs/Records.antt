@@ -2,7 +2,7 @@
 use Prim.Native.Nat.{ℕ, zero, suc, _+_, _-_, _*_, _/_, _%_, _≤_, _<_}
 use mathlib.Core.Path.{_≡_, refl, ap, ap₂, sym, _∙_}
 use mathlib.Core.Bool.{Bool, true, false, _&&_}
-use mathlib.Core.List.{List, [], _∷_}
+use mathlib.Core.List.{List}
 use native.Mathlib.Nat.{div-mul-le-self, add-zero, add-sub-cancel-left}
 use native.Mathlib.Omega.{arith}
 use borrow.Author.Tests.{le-leb, lt-leb, eqb-true, eq-eqb, ne-eqb}
@@ -10,7 +10,7 @@ use lib.ListN.{length, getD, take, drop}
 use lib.Seq.{drop-drop, getD-drop}
 use lib.Dec.{leb}
 use Rattle.vmd_format.specs.Bytes.{u32, before-zero}
-use Rattle.vmd_format.specs.Layout.{Layout, number, byte, flag, inverted, name, raw, _⊗_, as-record}
+use Rattle.vmd_format.specs.Layout.{Layout, number, byte, name, _⊗_, as-record}
 use Rattle.vmd_format.specs.Names.{good}
 use Rattle.vmd_format.specs.Read.{table}
 use Rattle.vmd_format.specs.Records.{camera, light, self-shadow, ik-state}

@@ -1,7 +1,7 @@
 -- Laws of name tables for code. Assumes nothing.
 use Prim.Native.Nat.{ℕ, zero, suc, _+_, _-_, _≤_, _<_}
-use mathlib.Core.Path.{_≡_, refl, ap, sym, _∙_}
-use mathlib.Core.Bool.{Bool, true, false, _&&_, and-eq-true-iff}
+use mathlib.Core.Path.{_≡_, refl, sym, _∙_}
+use mathlib.Core.Bool.{true, false, _&&_, and-eq-true-iff}
 use mathlib.Core.List.{List, [], _∷_}
 use native.Mathlib.Numerals.{add-one}
 use native.Mathlib.Omega.{arith}
@@ -10,7 +10,7 @@ use lib.ListN.{length, getD, take, drop, drop-of-length-le}
 use lib.Seq.{drop-cons}
 use lib.Dec.{leb, eqb}
 use Rattle.vmd_format.specs.Refusal.{Refusal}
-use Rattle.vmd_format.specs.Parts.{Check, passes, fails, _next_, each, name-check, NameTable, names-from, names-of, ends-right, table-right}
+use Rattle.vmd_format.specs.Parts.{Check, passes, fails, _next_, each, names-from, names-of, ends-right, table-right}
 use Rattle.vmd_checks.specs.Meaning.{table-of}
 use Rattle.vmd_checks.proofs.Checks.{next-fails, next-on}
 

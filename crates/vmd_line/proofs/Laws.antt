@@ -7,7 +7,7 @@ use native.Mathlib.Nat.{pow-suc, lt-trans}
 use native.Mathlib.Omega.{arith}
 use borrow.Author.Tests.{lt-ltb, le-ltb, ltb-true, ltb-false, le-leb, lt-leb}
 use lib.Dec.{ltb, leb, lit<}
-use lib.ListN.{length, getD, set, take, drop, length-append}
+use lib.ListN.{length, getD, set, take, length-append}
 use lib.Seq.{take-all, length-take-le}
 use Rattle.vmd_format.specs.Refusal.{Refusal, scratch-too-short, number}
 use Rattle.vmd_format.specs.Answer.{Answer, declined, given, and-then, unless}
@@ -16,7 +16,7 @@ use Rattle.vmd_format.specs.Opening.{Scan, Opening, open-file, scratch-after}
 use Rattle.vmd_format.specs.Places.{scan-file, scan-largest, open-scan}
 use Rattle.vmd_format.specs.OpeningLaws.{open-by-places}
 use Rattle.vmd_bytes.specs.Slices.{splice, part}
-use Rattle.vmd_bytes.proofs.Laws.{length-splice, splice-nil, splice-append, set-splice, part-zero, part-snoc}
+use Rattle.vmd_bytes.proofs.Laws.{length-splice, splice-nil, splice-append, set-splice, part-snoc}
 use Rattle.vmd_scan.proofs.Laws.{inside-file, inside-ends}
 use Rattle.vmd_line.specs.Line.{tens-if, digits, decimal, spaced, row, too-long, refused-line, numbers, line-of, line-if, line, line-scratch-if, line-scratch}
 

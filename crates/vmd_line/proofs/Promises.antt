@@ -1,5 +1,5 @@
 -- Two promises of the line: its last number is the length of the export, and 8,192 places of scratch are enough. Assumes nothing.
-use Prim.Native.Nat.{ℕ, zero, suc, _+_, _*_, _-_, _≤_, _<_}
+use Prim.Native.Nat.{ℕ, zero, suc, _+_, _*_, _-_, _≤_}
 use mathlib.Core.Path.{_≡_, refl, sym, ap, _∙_}
 use mathlib.Core.Bool.{Bool, true, false, _&&_}
 use mathlib.Core.List.{List, [], _∷_, _++_}
@@ -8,13 +8,13 @@ use borrow.Author.Tests.{le-leb}
 use lib.Dec.{leb, T}
 use lib.ListN.{length, drop, take}
 use Rattle.vmd_format.specs.Bytes.{u32}
-use Rattle.vmd_format.specs.Refusal.{Refusal, file-ends-early, magic-differs, scratch-too-short, number}
+use Rattle.vmd_format.specs.Refusal.{Refusal, file-ends-early, number}
 use Rattle.vmd_format.specs.Answer.{Answer, declined, given, and-then, map-answer, unless}
-use Rattle.vmd_format.specs.Read.{Step, refused, got, Oversized, refuse, emptied, ignored, lenient}
-use Rattle.vmd_format.specs.Take.{magic, same, model-if, magic-if, header-if, header, write-take}
+use Rattle.vmd_format.specs.Read.{refused, Oversized, refuse, emptied, ignored, lenient}
+use Rattle.vmd_format.specs.Take.{magic, same, model-if, magic-if, header-if, header}
 use Rattle.vmd_format.specs.Opening.{Scan, Opening, open-file}
 use Rattle.vmd_format.specs.Join.{export-file, file-length}
-use Rattle.vmd_format.specs.Places.{place-after, header-place, Span, over-span, records-span, count-span, span, optional-if, optional-span, Walk, walk-on, walk, over-if, scan-sections, scan-file, scan-largest, open-scan}
+use Rattle.vmd_format.specs.Places.{place-after, header-place, Span, over-span, records-span, count-span, span, optional-if, optional-span, walk-on, walk, over-if, scan-sections, scan-file, open-scan}
 use Rattle.vmd_format.specs.OpeningLaws.{open-by-places}
 use Rattle.vmd_format.specs.ExportLaws.{take-in, export-by-places, scan-scanned, scan-counts, scan-length}
 use Rattle.vmd_scan.proofs.Laws.{inside-file, inside-ends}

@@ -1,18 +1,17 @@
 -- Laws of the name test for code. Assumes nothing.
 use Prim.Native.Nat.{ℕ, suc, _+_, _≤_, _<_, _-_}
-use mathlib.Core.Path.{_≡_, refl, ap, sym, _∙_}
-use mathlib.Core.Bool.{Bool, true, false, _&&_}
-use mathlib.Core.List.{List, [], _∷_}
+use mathlib.Core.Path.{_≡_, sym, _∙_}
+use mathlib.Core.Bool.{Bool, true, false}
+use mathlib.Core.List.{List}
 use native.Mathlib.Numerals.{add-one}
 use native.Mathlib.Omega.{arith}
 use borrow.Author.Tests.{le-leb, lt-leb, eq-eqb, ne-eqb}
 use lib.ListN.{length, getD, drop, length-drop}
-use lib.Dec.{leb, eqb}
 use Rattle.vmd_format.specs.Bytes.{before-zero}
-use Rattle.vmd_format.specs.Names.{single, pair, unit, fault, good}
+use Rattle.vmd_format.specs.Names.{single, pair, unit, good}
 use Rattle.vmd_format.specs.NamesLaws.{unit-single, unit-cut, unit-two, unit-le, GoodTo, fault-step}
 use Rattle.vmd_format.specs.Refusal.{name-unfit, name-not-good}
-use Rattle.vmd_format.specs.Parts.{Check, passes, fails, _next_, need, name-check}
+use Rattle.vmd_format.specs.Parts.{passes, fails, _next_, need, name-check}
 
 -- ---- what stands at a place
 

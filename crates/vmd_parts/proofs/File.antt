@@ -1,29 +1,29 @@
 -- Laws of the whole file: its two halves, and what is left in the output. Assumes nothing.
-use Prim.Native.Nat.{ℕ, _+_, _*_, _/_, _%_, _≤_}
-use mathlib.Core.Path.{_≡_, refl, ap, sym, _∙_}
+use Prim.Native.Nat.{ℕ, _+_, _*_, _%_, _≤_}
+use mathlib.Core.Path.{_≡_, refl, ap, _∙_}
 use mathlib.Core.Bool.{Bool, true, false}
 use mathlib.Core.List.{List, [], _∷_, _++_, append-assoc, map}
 use native.Mathlib.Nat.{mul-comm, zero-add}
 use native.Mathlib.Omega.{arith}
 use borrow.Author.Tests.{le-leb, leb-true}
-use lib.ListN.{length, drop, length-append}
+use lib.ListN.{length, length-append}
 use lib.Dec.{leb}
 use Rattle.vmd_format.specs.Refusal.{Refusal, output-too-short}
-use Rattle.vmd_format.specs.Answer.{Answer, declined, given, map-answer, unless, fitted, left}
-use Rattle.vmd_format.specs.Bytes.{u32-bytes, padded}
+use Rattle.vmd_format.specs.Answer.{declined, given, unless, fitted, left}
+use Rattle.vmd_format.specs.Bytes.{u32-bytes}
 use Rattle.vmd_format.specs.BytesLaws.{padded-length}
 use Rattle.vmd_format.specs.Layout.{Layout}
 use Rattle.vmd_format.specs.Records.{Bone, Morph, bone, morph, camera, light, self-shadow}
 use Rattle.vmd_format.specs.Read.{table, fixed, write-all, write-counted}
-use Rattle.vmd_format.specs.Take.{Take, property, magic, write-header, write-sections, write-take}
-use Rattle.vmd_format.specs.Parts.{Parts, records-of, properties-of, upto, bone-at, morph-at, take-of-parts, Check, passes, fails, parts-check, build, bone-check, morph-check}
-use Rattle.vmd_format.specs.PartsLaws.{upto-length, build-given, build-refused}
+use Rattle.vmd_format.specs.Take.{property, magic, write-header, write-sections, write-take}
+use Rattle.vmd_format.specs.Parts.{Parts, records-of, properties-of, upto, bone-at, morph-at, take-of-parts, passes, fails, parts-check, build, bone-check, morph-check}
+use Rattle.vmd_format.specs.PartsLaws.{build-given, build-refused}
 use Rattle.vmd_bytes.specs.Slices.{splice}
 use Rattle.vmd_bytes.proofs.Laws.{splice-append-at, length-u32-bytes}
-use Rattle.vmd_writers.proofs.Sections.{Sized, bone-sized, morph-sized, camera-sized, light-sized, self-shadow-sized, section-length}
+use Rattle.vmd_writers.proofs.Sections.{Sized, bone-sized, morph-sized, camera-sized, light-sized, self-shadow-sized}
 use Rattle.vmd_checks.specs.Stages.{bone-right, morph-right}
 use Rattle.vmd_parts.specs.Stages.{BonesFit, bone-of, MorphsFit, morph-of, front-bytes, RecordsFit, back-bytes, within}
-use Rattle.vmd_checks.proofs.Whole.{Whole, records-length}
+use Rattle.vmd_checks.proofs.Whole.{records-length}
 use Rattle.vmd_parts.proofs.Size.{Checked, checked, filled, column-length, size-of, size-is, small}
 
 -- a write where the one from the start ends

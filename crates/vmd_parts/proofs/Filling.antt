@@ -1,22 +1,21 @@
 -- Laws of bones and morphs from their columns: what stands at an index, its bytes, and a loop that writes them. Assumes nothing.
 use Prim.Native.Nat.{ℕ, zero, suc, _+_, _-_, _*_, _≤_, _<_}
 use mathlib.Core.Path.{_≡_, refl, ap, sym, _∙_}
-use mathlib.Core.Bool.{true, _&&_, and-eq-true-iff}
+use mathlib.Core.Bool.{true, and-eq-true-iff}
 use mathlib.Core.List.{List, [], _∷_, _++_, map}
-use native.Mathlib.Nat.{zero-mul, sub-zero}
+use native.Mathlib.Nat.{sub-zero}
 use native.Mathlib.Numerals.{add-one}
 use native.Mathlib.Omega.{arith}
 use borrow.Author.Tests.{ltb-true}
 use lib.ListN.{length, getD, take, drop, length-drop}
 use lib.Seq.{take-all, length-take-le}
-use lib.Dec.{ltb}
 use lib.Ieee.{Float, nan, binary32, toBits}
 use Rattle.vmd_format.specs.Bytes.{u32-bytes, padded}
 use Rattle.vmd_format.specs.Layout.{number, name, raw, _⊗_, as-record}
 use Rattle.vmd_format.specs.Refusal.{name-index-too-large, not-finite}
 use Rattle.vmd_format.specs.Records.{bone, morph}
 use Rattle.vmd_format.specs.Read.{write-all}
-use Rattle.vmd_format.specs.Parts.{NameTable, Check, passes, _next_, need, each, finite, all-finite, names-of, upto}
+use Rattle.vmd_format.specs.Parts.{NameTable, Check, passes, _next_, each, finite, all-finite, names-of, upto}
 use Rattle.vmd_format.specs.PartsLaws.{all-at, upto-length, next-passes, need-passes, each-passes}
 use Rattle.vmd_bytes.specs.Slices.{splice, part}
 use Rattle.vmd_bytes.proofs.Laws.{splice-nil, part-cons, padded-long}

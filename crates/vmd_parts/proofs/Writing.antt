@@ -1,20 +1,17 @@
 -- Laws of writing what the parts mean: the header, floats, records from columns, and sections. Assumes nothing.
-use Prim.Native.Nat.{ℕ, zero, suc, _+_, _-_, _*_, _/_, _%_, _≤_, _<_}
-use mathlib.Core.Path.{_≡_, refl, ap, ap₂, sym, _∙_}
-use mathlib.Core.Bool.{Bool, true, false, _&&_, and-eq-true-iff}
-use mathlib.Core.List.{List, [], _∷_, _++_, append-assoc, append-nil, map}
-use native.Mathlib.Nat.{zero-add}
+use Prim.Native.Nat.{ℕ, zero, suc, _+_, _-_, _*_, _/_, _≤_, _<_}
+use mathlib.Core.Path.{_≡_, refl, ap, sym, _∙_}
+use mathlib.Core.Bool.{true, _&&_, and-eq-true-iff}
+use mathlib.Core.List.{List, [], _∷_, _++_, append-assoc}
 use native.Mathlib.Omega.{arith}
-use lib.ListN.{length, getD, take, drop, length-append, length-take, length-drop, length-map}
+use lib.ListN.{length, getD, take, drop, length-append, length-drop, length-map}
 use lib.Ieee.{Float, nan, binary32, toBits}
 use Rattle.vmd_format.specs.Bytes.{u32-bytes, padded}
 use Rattle.vmd_format.specs.BytesLaws.{padded-length}
 use Rattle.vmd_format.specs.Layout.{Layout}
-use Rattle.vmd_format.specs.Records.{Property}
 use Rattle.vmd_format.specs.Read.{table, fixed, write-all, write-counted}
 use Rattle.vmd_format.specs.Take.{property, magic, write-header}
 use Rattle.vmd_format.specs.Lengths.{property-length}
-use Rattle.vmd_format.specs.Opening.{ik-total}
 use Rattle.vmd_format.specs.Places.{Reaches}
 use Rattle.vmd_format.specs.PlacesLaws.{table-length, frames-in}
 use Rattle.vmd_format.specs.Parts.{finite, all-finite, records-of, frames, properties-of, is-got}
@@ -25,7 +22,6 @@ use Rattle.vmd_checks.specs.Meaning.{bits}
 use Rattle.vmd_parts.specs.Stages.{BoneThere, bone-bytes}
 use Rattle.vmd_checks.proofs.Columns.{bits-cons}
 use Rattle.vmd_checks.proofs.Properties.{properties-framed}
-use Rattle.vmd_checks.proofs.Whole.{records-length}
 use Rattle.vmd_parts.proofs.Size.{properties-total}
 use Rattle.vmd_parts.proofs.Names.{number-over}
 

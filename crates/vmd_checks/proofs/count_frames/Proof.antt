@@ -1,6 +1,5 @@
 -- `vmd_checks::count_frames` meets its contract. Assumes nothing.
-use Prim.Native.Nat.{_-_, _+_, _*_}
-use mathlib.Core.Path.{_≡_}
+use Prim.Native.Nat.{_-_}
 use native.Mathlib.Omega.{arith}
 use lib.ListN.{length}
 use Rattle.vmd_checks.proofs.Properties.{Passed, passed-start, passed-short, passed-over, passed-turn, passed-end}

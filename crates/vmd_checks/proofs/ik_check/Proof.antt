@@ -1,8 +1,5 @@
 -- `vmd_checks::ik_check` meets its contract. Assumes nothing.
-use mathlib.Core.Path.{ap, _∙_}
-use native.Mathlib.Omega.{arith}
 use borrow.Author.Needs.{needs}
-use Rattle.vmd_format.specs.Refusal.{name-not-good}
 use Rattle.vmd_checks.proofs.Records.{ik-passes, ik-fails}
 use Rattle.vmd_checks.proofs.ik_check.Statement.{statement}
 use Rattle.vmd_checks.proofs.ik_check.Tie as tie

@@ -1,5 +1,5 @@
 -- `vmd_checks::ik_states_check` meets its contract. Assumes nothing.
-use mathlib.Core.Path.{ap, _∙_}
+use mathlib.Core.Path.{ap}
 use native.Mathlib.Omega.{arith}
 use borrow.Author.Needs.{needs}
 use Rattle.vmd_format.specs.Records.{ik-state}

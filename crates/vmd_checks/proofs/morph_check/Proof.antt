@@ -1,10 +1,10 @@
 -- `vmd_checks::morph_check` meets its contract. Assumes nothing.
-use mathlib.Core.Path.{refl, ap, sym, _∙_}
+use mathlib.Core.Path.{ap, sym, _∙_}
 use native.Mathlib.Omega.{arith}
 use lib.ListN.{getD}
 use borrow.Author.Needs.{needs}
 use Rattle.vmd_format.specs.Refusal.{not-finite}
-use Rattle.vmd_format.specs.Parts.{need, finite}
+use Rattle.vmd_format.specs.Parts.{finite}
 use Rattle.vmd_checks.specs.Stages.{morph-right}
 use Rattle.vmd_checks.proofs.Checks.{need-true, need-false}
 use Rattle.vmd_checks.proofs.Columns.{bits-at, index-large, index-small}

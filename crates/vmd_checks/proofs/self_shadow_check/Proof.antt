@@ -1,5 +1,4 @@
 -- `vmd_checks::self_shadow_check` meets its contract. Assumes nothing.
-use mathlib.Core.Path.{_∙_, sym}
 use native.Mathlib.Omega.{arith}
 use Rattle.vmd_checks.proofs.Records.{shadow-passes, shadow-mode, shadow-distance}
 use Rattle.vmd_checks.proofs.self_shadow_check.Statement.{statement}

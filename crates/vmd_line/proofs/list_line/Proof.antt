@@ -1,11 +1,8 @@
 -- `vmd_line::list_line` meets its contract. Assumes nothing.
-use mathlib.Core.Path.{_≡_, refl, sym, ap, _∙_}
-use native.Mathlib.Omega.{arith}
+use mathlib.Core.Path.{sym, ap, _∙_}
 use borrow.Author.Needs.{needs}
 use lib.ListN.{length}
 use Rattle.vmd_format.specs.Answer.{given}
-use Rattle.vmd_format.specs.Read.{lenient}
-use Rattle.vmd_format.specs.Opening.{open-file}
 use Rattle.vmd_reader.specs.Meaning.{opening-answer}
 use Rattle.vmd_bytes.specs.Slices.{splice}
 use Rattle.vmd_line.specs.Line.{too-long, numbers, row, refused-line}

@@ -1,5 +1,4 @@
 -- `vmd_line::write_refused` meets its contract. Assumes nothing.
-use native.Mathlib.Omega.{arith}
 use borrow.Author.Needs.{needs}
 use Rattle.vmd_line.proofs.Laws.{refused-done}
 use Rattle.vmd_line.proofs.write_refused.Statement.{statement}

@@ -3,7 +3,6 @@
 use mathlib.Core.Path.{_≡_, _∙_}
 use Prim.Native.Nat.{_+_, _*_, _-_, _≤_}
 use native.Mathlib.Omega.{arith}
-use borrow.Author.Needs.{needs}
 use lib.ListN.{length, length-set}
 use Rattle.vmd_bytes.specs.Slices.{part}
 use Rattle.vmd_bytes.proofs.Laws.{part-zero}

@@ -1,5 +1,5 @@
 -- `vmd_line::write_text` meets its contract. Assumes nothing.
-use mathlib.Core.Path.{_≡_, refl, ap, _∙_}
+use mathlib.Core.Path.{refl, ap, _∙_}
 use borrow.Author.Needs.{needs}
 use Rattle.vmd_bytes.specs.Slices.{splice}
 use Rattle.vmd_bytes.proofs.Laws.{part-all}

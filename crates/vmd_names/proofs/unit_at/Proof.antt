@@ -1,10 +1,7 @@
 -- `vmd_names::unit_at` meets its contract. Assumes nothing.
-use mathlib.Core.Path.{sym, _∙_}
-use native.Mathlib.Numerals.{add-one}
 use native.Mathlib.Omega.{arith}
 use borrow.Author.Needs.{needs}
 use Rattle.vmd_names.proofs.Names.{single-there, last-there, pair-there, none-there}
-use Rattle.vmd_format.specs.Names.{unit}
 use Rattle.vmd_names.proofs.unit_at.Statement.{statement}
 use Rattle.vmd_names.proofs.unit_at.Tie as tie
 

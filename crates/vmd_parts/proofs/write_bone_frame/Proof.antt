@@ -3,7 +3,6 @@ use mathlib.Core.Path.{_∙_}
 use native.Mathlib.Omega.{arith}
 use borrow.Author.Needs.{needs}
 use Rattle.vmd_bytes.specs.Slices.{part}
-use Rattle.vmd_parts.specs.Stages.{BoneThere}
 use Rattle.vmd_parts.proofs.Writing.{bone-written, bits-length}
 use Rattle.vmd_parts.proofs.write_bone_frame.Statement.{statement}
 use Rattle.vmd_parts.proofs.write_bone_frame.Tie as tie

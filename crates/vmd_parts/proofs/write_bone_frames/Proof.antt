@@ -6,7 +6,7 @@ use borrow.Author.Needs.{needs}
 use Rattle.vmd_format.specs.Records.{bone}
 use Rattle.vmd_writers.proofs.Sections.{bone-sized}
 use Rattle.vmd_checks.specs.Meaning.{table-of, bits}
-use Rattle.vmd_parts.specs.Stages.{BonesFit, bone-of, bone-bytes}
+use Rattle.vmd_parts.specs.Stages.{bone-of}
 use Rattle.vmd_parts.proofs.Filling.{Filling, filling-start, filling-room, filling-turn, filling-end, bone-index, bone-there, bone-named, bone-is}
 use Rattle.vmd_parts.proofs.write_bone_frames.Statement.{statement}
 use Rattle.vmd_parts.proofs.write_bone_frames.Tie as tie

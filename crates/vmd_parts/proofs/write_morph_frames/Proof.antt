@@ -6,7 +6,7 @@ use borrow.Author.Needs.{needs}
 use Rattle.vmd_format.specs.Records.{morph}
 use Rattle.vmd_writers.proofs.Sections.{morph-sized}
 use Rattle.vmd_checks.specs.Meaning.{table-of, bits}
-use Rattle.vmd_parts.specs.Stages.{MorphsFit, morph-of}
+use Rattle.vmd_parts.specs.Stages.{morph-of}
 use Rattle.vmd_parts.proofs.Writing.{bits-length}
 use Rattle.vmd_parts.proofs.Filling.{Filling, filling-start, filling-room, filling-turn, filling-end, morph-index, morph-finite, morph-named, morph-is}
 use Rattle.vmd_parts.proofs.write_morph_frames.Statement.{statement}

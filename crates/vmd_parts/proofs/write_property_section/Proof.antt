@@ -1,6 +1,5 @@
 -- `vmd_parts::write_property_section` meets its contract. Assumes nothing.
 use Prim.Native.Nat.{_+_}
-use mathlib.Core.Path.{_∙_}
 use native.Mathlib.Omega.{arith}
 use borrow.Author.Needs.{needs}
 use Rattle.vmd_parts.proofs.Writing.{properties-ready, properties-written}
