@@ -7,8 +7,8 @@ use native.Mathlib.Nat.{eq-or-lt-of-le}
 use native.Mathlib.Omega.{arith}
 use lib.Dec.{T, ltb}
 use lib.Ieee.{Float, nan, inf, fin, binary32, up, down, ofBits, toBits, ofFields, odd, div, ne, eq, isNan, nanBits}
-use lib.Ieee.Bits.{nanBits-is, nanBits-above, toBits-ofBits}
-use borrow.Author.Tests.{ltb-true, lt-ltb, le-ltb, eq-eqb, ne-eqb}
+use lib.Ieee.Bits.{nanBits-is, nanBits-above}
+use borrow.Author.Tests.{lt-ltb, le-ltb, eq-eqb, ne-eqb}
 use Rattle.vmd_format.specs.Parts.{finite}
 
 never : false ≡ true → ⊥
@@ -66,9 +66,3 @@ unfolding isNan
 finite-no-nan nan h = absurd (never (sym nan-not-finite ∙ h))
 finite-no-nan (inf s) h = tt
 finite-no-nan (fin s m e) h = tt
-
--- a finite float keeps its bits
-pub bits-kept : (n : ℕ) → n < 4294967296 → finite n ≡ true → toBits binary32 (ofBits binary32 n) ≡ n
-bits-kept n h f =
-    let b : n % 2147483648 < 2139095040 = ltb-true (n % 2147483648) 2139095040 (finite-below n ∙ f) in
-    toBits-ofBits binary32 n h (rw nanBits-is at (other-pattern n (omega arith)))

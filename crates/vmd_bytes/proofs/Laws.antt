@@ -2,13 +2,13 @@
 use mathlib.Core.Path.{_≡_, refl, sym, ap, ap₂, _∙_}
 use mathlib.Core.Bool.{Bool, true, false, cond, not, _&&_}
 use mathlib.Core.List.{List, [], _∷_, _++_, append-assoc, append-nil}
-use Prim.Native.Nat.{ℕ, zero, suc, _+_, _-_, _*_, _/_, _%_, _≤_, _<_, zero-le, suc-le-suc}
-use native.Mathlib.Nat.{add-assoc, add-zero, zero-add, suc-ne-zero, zero-lt-suc, le-of-suc-le-suc, not-suc-le-zero, add-sub-cancel-left, sub-zero, zero-sub, suc-sub-suc}
+use Prim.Native.Nat.{ℕ, zero, suc, _+_, _-_, _*_, _≤_, _<_, zero-le, suc-le-suc}
+use native.Mathlib.Nat.{add-assoc, add-zero, suc-ne-zero, zero-lt-suc, le-of-suc-le-suc, not-suc-le-zero, add-sub-cancel-left, sub-zero, zero-sub, suc-sub-suc}
 use native.Mathlib.Numerals.{add-one}
 use native.Mathlib.Omega.{arith}
 use lib.Dec.{eqb}
 use lib.ListN.{length, take, drop, getD, set, replicate, length-append, length-take, length-drop, length-replicate, take-append-drop, replicate-append-replicate}
-use lib.Seq.{length-take-le, take-nil, take-take, take-at, take-add, take-length, take-append-le, take-append-seam, drop-at, drop-cons, drop-drop, drop-length, drop-append-le, drop-append-add, getD-drop, getD-take, set-split, append-snoc}
+use lib.Seq.{length-take-le, take-nil, take-take, take-at, take-add, take-length, take-append-le, drop-cons, drop-drop, drop-append-add, getD-drop, set-split, append-snoc}
 use borrow.Author.Tests.{eq-eqb, ne-eqb}
 use Rattle.vmd_format.specs.Bytes.{u32, u32-bytes, before-zero, padded}
 use Rattle.vmd_format.specs.Take.{same}
@@ -69,11 +69,6 @@ stores-more (v ∷ vs) l at u k e h =
 pub stores-splice : (l : List ℕ) (at a : ℕ) (vs : List ℕ) → at + suc (length vs) ≤ length l → stores (set l at a) at 1 vs ≡ splice l at (a ∷ vs)
 stores-splice l at a vs h = rw (set-splice l at a (omega arith)) (stores-more vs l at (a ∷ []) 1 refl (omega arith))
 
--- the whole written
-pub splice-whole : (l vs : List ℕ) → length vs ≡ length l → splice l 0 vs ≡ vs
-unfolding splice
-splice-whole l vs e = rw (e, zero-add, drop-length) (append-nil vs)
-
 -- a write over a shorter one at the same place
 pub splice-over : (l : List ℕ) (at : ℕ) (u v : List ℕ) → length u ≤ length v → at + length v ≤ length l → splice (splice l at u) at v ≡ splice l at v
 unfolding splice
@@ -109,10 +104,6 @@ pub length-part : (l : List ℕ) (at n : ℕ) → at + n ≤ length l → length
 unfolding part
 length-part l at n h = simp (length-take, length-drop) (omega arith)
 
-pub getD-part : (l : List ℕ) (at n i : ℕ) → i < n → getD (part l at n) i 0 ≡ getD l (at + i) 0
-unfolding part
-getD-part l at n i h = rw (getD-take n (drop at l) i 0 h, getD-drop)
-
 pub part-add : (l : List ℕ) (at n m : ℕ) → part l at (n + m) ≡ part l at n ++ part l (at + n) m
 unfolding part
 part-add l at n m = simp (take-add, drop-drop)
@@ -142,30 +133,10 @@ pub drop-part : (l : List ℕ) (at n k : ℕ) → drop k (part l at n) ≡ part 
 unfolding part
 drop-part l at n k = rw (drop-take k n (drop at l), drop-drop)
 
--- a part of a part
-pub part-part : (l : List ℕ) (at n k m : ℕ) → k + m ≤ n → part (part l at n) k m ≡ part l (at + k) m
-unfolding part
-part-part l at n k m h = ap (take m) (drop-part l at n k) ∙ take-part l (at + k) (n - k) m (omega arith)
-
--- a part that lies in the first or in the second of two lists
-pub part-left : (u v : List ℕ) (at n : ℕ) → at + n ≤ length u → part (u ++ v) at n ≡ part u at n
-unfolding part
-part-left u v at n h = rw (drop-append-le at u v (omega arith), take-append-le n (drop at u) v (rw (length-drop) (omega arith)))
-
-pub part-right : (u v : List ℕ) (k n : ℕ) → part (u ++ v) (length u + k) n ≡ part v k n
-unfolding part
-part-right u v k n = rw (drop-append-add u v k)
-
 -- the list of `&l[at..at + n]`
 pub range-part : (l : List ℕ) (at n : ℕ) → take (at + n - at) (drop at l) ≡ part l at n
 unfolding part
 range-part l at n = rw add-sub-cancel-left
-
--- what was written is read back
-pub part-splice : (l : List ℕ) (at : ℕ) (vs : List ℕ) → at + length vs ≤ length l → part (splice l at vs) at (length vs) ≡ vs
-unfolding part splice
-part-splice l at vs h =
-    rw (append-assoc, drop-at (take at l) (vs ++ drop (at + length vs) l) at (length-take-le at l (omega arith))) (take-append-seam vs (drop (at + length vs) l))
 
 -- ---- turns of loops
 
@@ -181,20 +152,10 @@ pub length-u32-bytes : (v : ℕ) → length (u32-bytes v) ≡ 4
 unfolding u32-bytes
 length-u32-bytes v = refl
 
-pub u32-written : (v : ℕ) → v < 4294967296 → u32 (u32-bytes v) ≡ v
-unfolding u32 u32-bytes
-u32-written v h = let q : v / 16777216 % 256 ≡ v / 16777216 = omega arith in rw q (omega arith)
-
 -- the four bytes from `at` on
 pub u32-drop : (l : List ℕ) (at : ℕ) → u32 (drop at l) ≡ getD l at 0 + 256 * getD l (at + 1) 0 + 65536 * getD l (at + 2) 0 + 16777216 * getD l (at + 3) 0
 unfolding u32
 u32-drop l at = simp (getD-drop, add-zero)
-
--- the number depends on its four bytes alone
-pub u32-part : (l : List ℕ) (at n : ℕ) → 4 ≤ n → u32 (part l at n) ≡ u32 (drop at l)
-unfolding u32 part
-u32-part l at n h =
-    rw (getD-take n (drop at l) 0 0 (omega arith), getD-take n (drop at l) 1 0 (omega arith), getD-take n (drop at l) 2 0 (omega arith), getD-take n (drop at l) 3 0 (omega arith))
 
 -- ---- comparing
 

@@ -104,10 +104,6 @@ module _ (a b c d v : ℕ) (ha : a < 256) (hb : b < 256) (hc : c < 256) (hd : d 
 pub u32-bytes-digits : (v : ℕ) → u32-bytes v ≡ digits 4 v
 u32-bytes-digits v = rw (four-split v) (number-at _ _ _ _ _ (omega arith) (omega arith) (omega arith) (omega arith))
 
--- a number that is read and written again
-pub u32-again : (s : List ℕ) (at : ℕ) → at + 4 ≤ length s → ((k : ℕ) → getD s k 0 < 256) → u32-bytes (u32 (drop at s)) ≡ part s at 4
-u32-again s at h lt = u32-bytes-digits (u32 (drop at s)) ∙ digits-u32 s at h lt
-
 halves-at : (a b c d v : ℕ) → a < 256 → b < 256 → c < 256 → d < 256
     → u32-bytes (four a b c d v % 4294967296) ++ u32-bytes (four a b c d v / 4294967296) ≡ digits 8 (four a b c d v)
 halves-at a b c d v ha hb hc hd =

@@ -11,7 +11,8 @@ use lib.ListN.{length, take, drop, length-append}
 use Rattle.vmd_format.specs.Bytes.{u32-bytes, padded}
 use Rattle.vmd_format.specs.Layout.{Layout}
 use Rattle.vmd_format.specs.Refusal.{Refusal, count-too-large, output-too-short}
-use Rattle.vmd_format.specs.Answer.{Answer, declined, given, and-then, map-answer, unless, fitted, left}
+use Rattle.vmd_format.specs.Answer.{Answer, declined, given, and-then, map-answer, unless, fitted, left, within}
+use Rattle.vmd_format.specs.AnswerLaws.{within-fits, within-over}
 use Rattle.vmd_format.specs.Read.{lenient, Codec, fixed, table, write-all, write-counted}
 use Rattle.vmd_format.specs.Take.{property, take-of, magic, write-header, write-sections, write-take}
 use Rattle.vmd_format.specs.Opening.{ik-total, Part, Scan}
@@ -26,19 +27,11 @@ use Rattle.vmd_bytes.specs.Slices.{splice}
 use Rattle.vmd_bytes.proofs.Laws.{length-splice, splice-append, length-u32-bytes, length-padded}
 use Rattle.vmd_scan.proofs.Laws.{inside-reaches, inside-ends}
 use Rattle.vmd_writers.proofs.Sections.{Sized, section-length}
-use Rattle.vmd_export.specs.Together.{no-scan, Sums, sums-fit, within, sum-length, scan-both, Parts, Frames, Both, records-of, frames-of, back-bytes, sections-bytes, take-of-both, Room, Wrote}
+use Rattle.vmd_export.specs.Together.{no-scan, Sums, sums-fit, sum-length, scan-both, Parts, Frames, Both, records-of, frames-of, back-bytes, sections-bytes, take-of-both, Room, Wrote}
 
 -- ---- answers
 
 module _ (m n : ℕ) where
-  pub within-fits : n ≤ m → given n ≡ within m n
-  unfolding within unless
-  within-fits h = rw (le-leb n m h)
-
-  pub within-over : m < n → declined output-too-short ≡ within m n
-  unfolding within unless
-  within-over h = rw (lt-leb n m h)
-
   within-given : (l : ℕ) → given l ≡ within m n → l ≡ n
   unfolding within unless
   within-given l e = go (leb n m) e

@@ -7,7 +7,7 @@ use mathlib.Core.List.{List, _++_}
 use lib.ListN.{length, drop}
 use lib.Dec.{leb}
 use Rattle.vmd_format.specs.Layout.{Layout}
-use Rattle.vmd_format.specs.Refusal.{count-too-large, output-too-short}
+use Rattle.vmd_format.specs.Refusal.{count-too-large}
 use Rattle.vmd_format.specs.Answer.{Answer, given, and-then, unless}
 use Rattle.vmd_format.specs.Records.{Property, bone, morph, camera, light, self-shadow}
 use Rattle.vmd_format.specs.Read.{lenient, fixed, table, write-counted}
@@ -48,10 +48,6 @@ sums-fit x y =
     leb (x .bones .count + y .bones .count) 4294967295 && leb (x .morphs .count + y .morphs .count) 4294967295
     && leb (x .cameras .count + y .cameras .count) 4294967295 && leb (x .lights .count + y .lights .count) 4294967295
     && leb (x .self-shadows .count + y .self-shadows .count) 4294967295 && leb (x .properties .count + y .properties .count) 4294967295
-
--- so many bytes, where an output of n can hold them
-unfoldable pub within : ℕ → ℕ → Answer ℕ
-within n l = unless (leb l n) output-too-short (given l)
 
 -- the length of the file of both
 unfoldable pub sum-length : Scan → Scan → ℕ

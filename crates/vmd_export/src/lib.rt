@@ -16,7 +16,7 @@ ghost use mathlib.Core.Bool.{_&&_};
 ghost use Prim.Native.Nat.{_+_};
 ghost use lib.Dec.{leb};
 ghost use lib.ListN.{length};
-ghost use Rattle.vmd_format.specs.Answer.{given, map-answer, fitted, left};
+ghost use Rattle.vmd_format.specs.Answer.{given, map-answer, fitted, within, left};
 ghost use Rattle.vmd_format.specs.Records.{bone, morph, camera, light, self-shadow};
 ghost use Rattle.vmd_format.specs.Read.{lenient, fixed, write-counted};
 ghost use Rattle.vmd_format.specs.Take.{property, write-header, write-take};
@@ -27,7 +27,7 @@ ghost use Rattle.vmd_format.specs.Join.{file-length};
 ghost use Rattle.vmd_scan.specs.Meaning.{part-is, scan-is, scan-answer};
 ghost use Rattle.vmd_export.specs.Meaning.{written-answer, both-answer};
 ghost use Rattle.vmd_export.specs.Saved.{exported-answer, exported-output, joined-answer, joined-output, export-size, join-size};
-ghost use Rattle.vmd_export.specs.Together.{no-scan, Sums, sums-fit, within, sum-length, scan-both, Parts, Frames, Both, records-of, frames-of, back-bytes, sections-bytes, take-of-both, Room, Wrote};
+ghost use Rattle.vmd_export.specs.Together.{no-scan, Sums, sums-fit, sum-length, scan-both, Parts, Frames, Both, records-of, frames-of, back-bytes, sections-bytes, take-of-both, Room, Wrote};
 
 // What a call that writes answers: a refusal, or how many bytes.
 pub enum VmdWritten {

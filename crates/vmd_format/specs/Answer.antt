@@ -28,6 +28,10 @@ unfoldable pub fitted : ℕ → Answer (List ℕ) → Answer (List ℕ)
 fitted n (declined k) = declined k
 fitted n (given s) = unless (leb (length s) n) output-too-short (given s)
 
+-- How many bytes, where an output of so many can hold them.
+unfoldable pub within : ℕ → ℕ → Answer ℕ
+within limit n = unless (leb n limit) output-too-short (given n)
+
 -- The lent output at exit: the bytes "at the front of the output; the rest of the output keeps its contents", and in a
 -- refusal all of it.
 unfoldable pub left : List ℕ → Answer (List ℕ) → List ℕ

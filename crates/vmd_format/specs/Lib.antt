@@ -2,6 +2,7 @@ pub mod Bytes
 pub mod Layout
 pub mod Refusal
 pub mod Answer
+pub mod AnswerLaws
 pub mod Records
 pub mod Read
 pub mod Take

@@ -9,7 +9,7 @@ use borrow.Author.Tests.{le-leb, leb-true}
 use lib.ListN.{length, length-append}
 use lib.Dec.{leb}
 use Rattle.vmd_format.specs.Refusal.{Refusal, output-too-short}
-use Rattle.vmd_format.specs.Answer.{declined, given, unless, fitted, left}
+use Rattle.vmd_format.specs.Answer.{declined, given, unless, fitted, left, within}
 use Rattle.vmd_format.specs.Bytes.{u32-bytes}
 use Rattle.vmd_format.specs.BytesLaws.{padded-length}
 use Rattle.vmd_format.specs.Layout.{Layout}
@@ -22,7 +22,7 @@ use Rattle.vmd_bytes.specs.Slices.{splice}
 use Rattle.vmd_bytes.proofs.Laws.{splice-append-at, length-u32-bytes}
 use Rattle.vmd_writers.proofs.Sections.{Sized, bone-sized, morph-sized, camera-sized, light-sized, self-shadow-sized}
 use Rattle.vmd_checks.specs.Stages.{bone-right, morph-right}
-use Rattle.vmd_parts.specs.Stages.{BonesFit, bone-of, MorphsFit, morph-of, front-bytes, RecordsFit, back-bytes, within}
+use Rattle.vmd_parts.specs.Stages.{BonesFit, bone-of, MorphsFit, morph-of, front-bytes, RecordsFit, back-bytes}
 use Rattle.vmd_checks.proofs.Whole.{records-length}
 use Rattle.vmd_parts.proofs.Size.{Checked, checked, filled, column-length, size-of, size-is, small}
 
@@ -146,9 +146,9 @@ left-not p out {k} e h = rw (build-given p e, size-is p (checked p e)) (go (leb 
     go false q = refl
 
 -- a size that is given is within the limit
-pub within-fits : (limit m : ℕ) {n : ℕ} → given n ≡ within limit m → m ≤ limit
+pub within-holds : (limit m : ℕ) {n : ℕ} → given n ≡ within limit m → m ≤ limit
 unfolding within unless
-within-fits limit m {n} h = go (leb m limit) refl h
+within-holds limit m {n} h = go (leb m limit) refl h
   where
     go : (b : Bool) → leb m limit ≡ b → given n ≡ unless b output-too-short (given m) → m ≤ limit
     go true e q = leb-true m limit e

@@ -5,11 +5,10 @@ use mathlib.Core.Bool.{Bool, true, false}
 use mathlib.Core.List.{List, map}
 use native.Mathlib.Nat.{div-add-mod', mul-comm, add-zero}
 use native.Mathlib.Omega.{arith}
-use borrow.Author.Tests.{le-leb, lt-leb}
 use lib.ListN.{length, drop, length-map}
 use lib.Dec.{leb}
 use Rattle.vmd_format.specs.Refusal.{Refusal, parts-not-whole, output-too-short}
-use Rattle.vmd_format.specs.Answer.{Answer, declined, given, map-answer, unless, fitted}
+use Rattle.vmd_format.specs.Answer.{Answer, declined, given, map-answer, unless, fitted, within}
 use Rattle.vmd_format.specs.Records.{ik-state}
 use Rattle.vmd_format.specs.Take.{write-take}
 use Rattle.vmd_format.specs.Lengths.{export-length}
@@ -20,20 +19,10 @@ use Rattle.vmd_format.specs.Bytes.{u32}
 use Rattle.vmd_format.specs.Parts.{Parts, names-of, frames, properties-of, upto, bone-at, morph-at, take-of-parts, passes, fails, _next_, each, is-got, name-check, bone-check, morph-check, parts-check, build}
 use Rattle.vmd_format.specs.PartsLaws.{upto-length, next-passes, need-passes, Counts, counts-pass, Columns, columns-pass, build-given, build-refused}
 use Rattle.vmd_writers.proofs.Sections.{camera-sized, light-sized, self-shadow-sized}
-use Rattle.vmd_parts.specs.Stages.{within}
 use Rattle.vmd_checks.proofs.Properties.{frame-end, properties-framed}
 use Rattle.vmd_checks.proofs.Whole.{Whole, whole-are, records-length, whole-same}
 
 -- ---- the size
-
-module _ (limit n : ℕ) where
-  pub within-not : limit < n → declined output-too-short ≡ within limit n
-  unfolding within unless
-  within-not h = rw (lt-leb n limit h)
-
-  pub within-is : n ≤ limit → given n ≡ within limit n
-  unfolding within unless
-  within-is h = rw (le-leb n limit h)
 
 -- the bytes of n frames
 frames-total : (s : List ℕ) (n at : ℕ) → frame-end s n at ≡ at + 9 * n + 21 * ik-total (frames-in s n at)

@@ -4,21 +4,12 @@ use mathlib.Core.Path.{_≡_}
 use mathlib.Core.Bool.{true}
 use mathlib.Core.List.{List, [], _++_}
 use lib.ListN.{length, getD, take, drop}
-use lib.Dec.{leb}
 use Rattle.vmd_format.specs.Bytes.{u32-bytes, padded}
-use Rattle.vmd_format.specs.Refusal.{output-too-short}
-use Rattle.vmd_format.specs.Answer.{Answer, given, unless}
 use Rattle.vmd_format.specs.Read.{fixed, write-all, write-counted}
 use Rattle.vmd_format.specs.Take.{property, write-header}
 use Rattle.vmd_format.specs.Records.{Bone, Morph, bone, morph, camera, light, self-shadow}
 use Rattle.vmd_format.specs.Parts.{NameTable, passes, each, finite, all-finite, names-of, records-of, frames, properties-of, upto, table-right, is-got, name-check}
 use Rattle.vmd_checks.specs.Stages.{bone-right, morph-right}
-
--- ---- the size
-
--- a length, where it is within a limit
-unfoldable pub within : ℕ → ℕ → Answer ℕ
-within limit n = unless (leb n limit) output-too-short (given n)
 
 -- ---- bones from columns
 

@@ -22,12 +22,12 @@ ghost use Rattle.vmd_format.specs.Records.{bone, morph, camera, light, self-sha
 ghost use Rattle.vmd_format.specs.Read.{fixed, write-all, write-counted};
 ghost use Rattle.vmd_format.specs.Take.{property, write-header};
 ghost use Rattle.vmd_format.specs.Parts.{records-of, is-got, frames, properties-of, finite, all-finite, upto, build};
-ghost use Rattle.vmd_format.specs.Answer.{fitted, map-answer, left};
+ghost use Rattle.vmd_format.specs.Answer.{fitted, map-answer, within, left};
 ghost use Rattle.vmd_bytes.specs.Slices.{splice, part};
 ghost use Rattle.vmd_bytes.specs.Words.{digits};
 ghost use Rattle.vmd_checks.specs.Meaning.{table-of, bits, parts-of};
 ghost use Rattle.vmd_parts.specs.Meaning.{built-answer};
-ghost use Rattle.vmd_parts.specs.Stages.{within, BoneThere, bone-bytes, BonesFit, bone-of, MorphsFit, morph-of, front-bytes, RecordsFit, back-bytes};
+ghost use Rattle.vmd_parts.specs.Stages.{BoneThere, bone-bytes, BonesFit, bone-of, MorphsFit, morph-of, front-bytes, RecordsFit, back-bytes};
 
 const BONE_SIZE: usize = VmdParsedBoneFrame::SIZE;
 

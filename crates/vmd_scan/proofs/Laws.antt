@@ -1,6 +1,6 @@
 -- Laws of scanning: its steps make the format's scan, turns of the loops over frames, and what callers know of a scan. Assumes nothing.
 use Prim.Native.Nat.{ℕ, zero, suc, _+_, _*_, _-_, _≤_, _<_, max}
-use mathlib.Core.Path.{_≡_, refl, sym, ap, _∙_}
+use mathlib.Core.Path.{_≡_, refl, sym, _∙_}
 use mathlib.Core.Bool.{Bool, true, false}
 use mathlib.Core.List.{List, [], _∷_, _++_, append-assoc}
 use native.Mathlib.Nat.{max-zero, mul-le-mul-left}
@@ -19,12 +19,8 @@ use Rattle.vmd_format.specs.Fetch.{model-of}
 use Rattle.vmd_format.specs.Opening.{Scan}
 use Rattle.vmd_format.specs.Places.{place-after, header-place, Span, part-in, no-span, records-span, count-span, span, optional-if, optional-span, Walk, walk-on, walk, scan-sections, scan-file, largest-of, next-frame, largest-frame-of, frame-places, Reaches}
 use Rattle.vmd_format.specs.PlacesLaws.{Holds, Within, optional-within, Frame, frame-span, walk-next}
-use Rattle.vmd_format.specs.ScanLaws.{Inside, Matches, file-agrees, sections-agree}
+use Rattle.vmd_format.specs.ScanLaws.{Inside, Matches, file-agrees}
 use Rattle.vmd_scan.specs.Stages.{Numbered, number-if, read-number, Optional, nothing, there, optional-number-if, optional-number, counted-if, counted-span, Back, scan-front, scan-back, scan-end}
-use Rattle.vmd_scan.specs.Meaning.{scan-is, scan-answer}
-use Rattle.vmd_scan.specs.declared.VmdSections.{VmdSections}
-use Rattle.vmd_scan.specs.declared.ScanAnswer.{ScanAnswer}
-use Rattle.vmd_scan.specs.declared.ScanAnswer.the-variants.{Scanned}
 
 -- records of at most 111 bytes, as many as a count says, fit a size
 pub size-fits : (n size : ℕ) → n < 4294967296 → size ≤ 111 → n * size < 18446744073709551616
@@ -246,13 +242,6 @@ matched s model (got f r) (given v) x a e = let p : v ≡ x = cc in rw p at (a .
 
 pub inside-file : (m : Manner) (s : List ℕ) (x : Scan) → scan-file m s ≡ given x → Inside s x
 inside-file m s x e = matched s (model-of s) (read-file m s) (scan-file m s) x (file-agrees m s) e
-
-pub inside-sections : (m : Manner) (s : List ℕ) (at : ℕ) (x : Scan) → at ≤ length s → scan-sections m s at ≡ given x → Inside s x
-inside-sections m s at x h e = matched s [] (sections m [] (drop at s)) (scan-sections m s at) x (sections-agree m s [] at h) e
-
--- the same of the code's answers
-pub scanned-inside : (m : Manner) (s : List ℕ) (r : ScanAnswer) (x : VmdSections) → scan-answer r ≡ scan-file m s → r ≡ Scanned x → Inside s (scan-is x)
-scanned-inside m s r x e q = inside-file m s (scan-is x) (sym e ∙ ap scan-answer q)
 
 -- the property frames of a scan lie in the file
 module _ (s : List ℕ) (x : Scan) (h : Inside s x) where

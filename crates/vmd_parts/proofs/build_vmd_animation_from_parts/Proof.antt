@@ -5,7 +5,7 @@ use borrow.Author.Needs.{needs}
 use Rattle.vmd_names.specs.Meaning.{check-of}
 use Rattle.vmd_parts.specs.Meaning.{built-answer}
 use Rattle.vmd_parts.proofs.Size.{checked, small, refused-built, sized-built}
-use Rattle.vmd_parts.proofs.File.{bones-fit, morphs-fit, records-fit, front-ready, back-ready, left-refused, left-not, within-fits, left-built}
+use Rattle.vmd_parts.proofs.File.{bones-fit, morphs-fit, records-fit, front-ready, back-ready, left-refused, left-not, within-holds, left-built}
 use Rattle.vmd_parts.proofs.build_vmd_animation_from_parts.Statement.{statement}
 use Rattle.vmd_parts.proofs.build_vmd_animation_from_parts.Tie as tie
 
@@ -15,24 +15,24 @@ size-within-requires c κs = small _ (checked _ (sym (c .before .before .parts-c
 write-front-requires : tie.Need-write-front-requires
 write-front-requires c κs =
     let k = checked _ (sym (c .before .before .before .before .before .before .before .parts-check .ensures) ∙ ap check-of (c .before .before .before .before .before .enum-told .given .1)) in
-    (bones-fit k, (morphs-fit k, front-ready k _ (within-fits _ _ (sym (ap built-answer (c .before .before .n .given .1)) ∙ c .before .before .before .before .size-within .ensures))))
+    (bones-fit k, (morphs-fit k, front-ready k _ (within-holds _ _ (sym (ap built-answer (c .before .before .n .given .1)) ∙ c .before .before .before .before .size-within .ensures))))
 
 mul-at : tie.Need-mul-at
-mul-at c = omega (arith, front-ready (checked _ (sym (c .before .before .before .before .before .before .before .before .before .before .parts-check .ensures) ∙ ap check-of (c .before .before .before .before .before .before .before .before .enum-told .given .1))) _ (within-fits _ _ (sym (ap built-answer (c .before .before .before .before .before .n .given .1)) ∙ c .before .before .before .before .before .before .before .size-within .ensures)))
+mul-at c = omega (arith, front-ready (checked _ (sym (c .before .before .before .before .before .before .before .before .before .before .parts-check .ensures) ∙ ap check-of (c .before .before .before .before .before .before .before .before .enum-told .given .1))) _ (within-holds _ _ (sym (ap built-answer (c .before .before .before .before .before .n .given .1)) ∙ c .before .before .before .before .before .before .before .size-within .ensures)))
 
 add-at : tie.Need-add-at
-add-at c = omega (arith, front-ready (checked _ (sym (c .before .before .before .before .before .before .before .before .before .before .parts-check .ensures) ∙ ap check-of (c .before .before .before .before .before .before .before .before .enum-told .given .1))) _ (within-fits _ _ (sym (ap built-answer (c .before .before .before .before .before .n .given .1)) ∙ c .before .before .before .before .before .before .before .size-within .ensures)))
+add-at c = omega (arith, front-ready (checked _ (sym (c .before .before .before .before .before .before .before .before .before .before .parts-check .ensures) ∙ ap check-of (c .before .before .before .before .before .before .before .before .enum-told .given .1))) _ (within-holds _ _ (sym (ap built-answer (c .before .before .before .before .before .n .given .1)) ∙ c .before .before .before .before .before .before .before .size-within .ensures)))
 
 mul-at-2 : tie.Need-mul-at-2
-mul-at-2 c = omega (arith, front-ready (checked _ (sym (c .before .before .before .before .before .before .before .before .before .before .parts-check .ensures) ∙ ap check-of (c .before .before .before .before .before .before .before .before .enum-told .given .1))) _ (within-fits _ _ (sym (ap built-answer (c .before .before .before .before .before .n .given .1)) ∙ c .before .before .before .before .before .before .before .size-within .ensures)))
+mul-at-2 c = omega (arith, front-ready (checked _ (sym (c .before .before .before .before .before .before .before .before .before .before .parts-check .ensures) ∙ ap check-of (c .before .before .before .before .before .before .before .before .enum-told .given .1))) _ (within-holds _ _ (sym (ap built-answer (c .before .before .before .before .before .n .given .1)) ∙ c .before .before .before .before .before .before .before .size-within .ensures)))
 
 add-at-2 : tie.Need-add-at-2
-add-at-2 c = omega (arith, front-ready (checked _ (sym (c .before .before .before .before .before .before .before .before .before .before .parts-check .ensures) ∙ ap check-of (c .before .before .before .before .before .before .before .before .enum-told .given .1))) _ (within-fits _ _ (sym (ap built-answer (c .before .before .before .before .before .n .given .1)) ∙ c .before .before .before .before .before .before .before .size-within .ensures)))
+add-at-2 c = omega (arith, front-ready (checked _ (sym (c .before .before .before .before .before .before .before .before .before .before .parts-check .ensures) ∙ ap check-of (c .before .before .before .before .before .before .before .before .enum-told .given .1))) _ (within-holds _ _ (sym (ap built-answer (c .before .before .before .before .before .n .given .1)) ∙ c .before .before .before .before .before .before .before .size-within .ensures)))
 
 write-back-requires : tie.Need-write-back-requires
 write-back-requires c κs =
     let k = checked _ (sym (c .before .before .before .before .before .before .before .before .before .before .before .parts-check .ensures) ∙ ap check-of (c .before .before .before .before .before .before .before .before .before .enum-told .given .1)) in
-    (records-fit k, back-ready k _ _ (within-fits _ _ (sym (ap built-answer (c .before .before .before .before .before .before .n .given .1)) ∙ c .before .before .before .before .before .before .before .before .size-within .ensures)) (c .before .before .before .write-front .kept .1 .1 .1 .1 .1 .1 .1 .1 .1 .1 .1 .1 .1 .0))
+    (records-fit k, back-ready k _ _ (within-holds _ _ (sym (ap built-answer (c .before .before .before .before .before .before .n .given .1)) ∙ c .before .before .before .before .before .before .before .before .size-within .ensures)) (c .before .before .before .write-front .kept .1 .1 .1 .1 .1 .1 .1 .1 .1 .1 .1 .1 .1 .0))
 
 returns : tie.Need-returns
 returns c =
@@ -49,7 +49,7 @@ returns-3 : tie.Need-returns-3
 returns-3 c =
     let e = sym (c .before .before .before .before .before .before .before .before .before .before .before .before .before .before .parts-check .ensures) ∙ ap check-of (c .before .before .before .before .before .before .before .before .before .before .before .before .enum-told .given .1) in
     let q = sym (ap built-answer (c .before .before .before .before .before .before .before .before .before .n .given .1)) ∙ c .before .before .before .before .before .before .before .before .before .before .before .size-within .ensures in
-    (sized-built _ _ e q, left-built _ _ e (within-fits _ _ q) (c .before .before .before .before .before .before .write-front .ensures) (c .before .before .write-back .ensures))
+    (sized-built _ _ e q, left-built _ _ e (within-holds _ _ q) (c .before .before .before .before .before .before .write-front .ensures) (c .before .before .write-back .ensures))
 
 pub build-vmd-animation-from-parts-spec : {M : Type 1} → statement M
 build-vmd-animation-from-parts-spec =

@@ -1,17 +1,17 @@
 -- `vmd_parts::size_within` meets its contract. Assumes nothing.
 use native.Mathlib.Omega.{arith}
-use Rattle.vmd_parts.proofs.Size.{within-not, within-is}
+use Rattle.vmd_format.specs.AnswerLaws.{within-fits, within-over}
 use Rattle.vmd_parts.proofs.size_within.Statement.{statement}
 use Rattle.vmd_parts.proofs.size_within.Tie as tie
 
 returns : tie.Need-returns
-returns c = within-not _ _ (omega arith)
+returns c = within-over _ _ (omega arith)
 
 returns-2 : tie.Need-returns-2
-returns-2 c = within-not _ _ (omega arith)
+returns-2 c = within-over _ _ (omega arith)
 
 returns-3 : tie.Need-returns-3
-returns-3 c = within-is _ _ (omega arith)
+returns-3 c = within-fits _ _ (omega arith)
 
 pub size-within-spec : {M : Type 1} → statement M
 size-within-spec =
