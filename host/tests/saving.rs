@@ -387,7 +387,8 @@ fn names_that_are_taken() {
     assert_eq!(status(&saving.run(&mut vmd())), 0);
     assert!(saving.is_new());
     assert_eq!(saving.folder.names(), [".vmd-save-0.tmp", "new", "take"]);
-    drop(lock);
+    // Not by closing it: a process that another test is starting may hold a copy of it for a moment.
+    lock.unlock().unwrap();
     saving.expect_next_save_works();
 
     saving.put_back();
