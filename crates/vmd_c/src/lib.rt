@@ -1,7 +1,6 @@
 // The library for C, thin over the calls of vmd_reader, vmd_export and vmd_parts. include/vmd.h says how C calls it. Every
 // function states what it returns, and every slot and buffer at exit, by equations with definitions.
-use vmd_export::VmdWritten;
-use vmd_parts::VmdBuilt;
+use vmd_output::VmdWritten;
 use vmd_reader::VmdBoneAnswer;
 use vmd_reader::VmdCameraAnswer;
 use vmd_reader::VmdIkStateAnswer;
@@ -31,10 +30,9 @@ ghost use Rattle.vmd_format.specs.Opening.{open-file, scratch-after};
 ghost use Rattle.vmd_format.specs.Fetch.{fetch, or-empty, model-of, fetch-property, fetch-ik-state};
 ghost use Rattle.vmd_format.specs.Parts.{build};
 ghost use Rattle.vmd_reader.specs.Meaning.{opening-is};
-ghost use Rattle.vmd_export.specs.Meaning.{written-answer};
+ghost use Rattle.vmd_output.specs.Meaning.{written-answer};
 ghost use Rattle.vmd_export.specs.Saved.{exported-answer, exported-output, joined-answer, joined-output, export-size, join-size};
 ghost use Rattle.vmd_checks.specs.Meaning.{parts-of};
-ghost use Rattle.vmd_parts.specs.Meaning.{built-answer};
 ghost use Rattle.vmd_c.specs.Meaning.{status, slot-after, counts-of, places-of, totals-of, scan-at, bone-words, morph-words, camera-words, light-values, light-words, self-shadow-words, property-words, part-words, joined-words};
 
 fn wide(b: u8) -> u32
@@ -459,7 +457,7 @@ pub extern "C" fn vmd_camera_interpolation(
 
 // ---- saving and joining
 
-// Hands over what a call that saves answers: the status is the result, and the slot receives the length.
+// Hands over what a call that writes answers: the status is the result, and the slot receives the length.
 fn report_written(answer: VmdWritten, slot: &mut u64) -> u32
     ensures { λ r. ⌜ r ≡ status (written-answer answer) ⌝ }
     ensures { λ _. ⌜ now (slot .exit) ≡ slot-after (now (slot .entry)) (λ n. n) (written-answer answer) ⌝ }
@@ -541,20 +539,6 @@ pub extern "C" fn vmd_first_fault(name: &[u8]) -> usize
     vmd_names::first_fault(name)
 }
 
-// As report_written, of a call that builds.
-fn report_built(answer: VmdBuilt, slot: &mut u64) -> u32
-    ensures { λ r. ⌜ r ≡ status (built-answer answer) ⌝ }
-    ensures { λ _. ⌜ now (slot .exit) ≡ slot-after (now (slot .entry)) (λ n. n) (built-answer answer) ⌝ }
-{
-    match answer {
-        VmdBuilt::Refused(k) => k.number(),
-        VmdBuilt::Bytes(length) => {
-            *slot = length;
-            0
-        }
-    }
-}
-
 #[no_mangle]
 pub extern "C" fn vmd_build_size(
     model_name: &[u8],
@@ -604,7 +588,7 @@ pub extern "C" fn vmd_build_size(
         morph_frames,
         morph_weights,
     );
-    report_built(answer, size)
+    report_written(answer, size)
 }
 
 #[no_mangle]
@@ -659,5 +643,5 @@ pub extern "C" fn vmd_build_animation_from_parts(
         morph_weights,
         out,
     );
-    report_built(answer, written)
+    report_written(answer, written)
 }

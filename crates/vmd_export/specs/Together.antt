@@ -1,23 +1,19 @@
 -- Two scanned files written one after the other, section by section. proofs/Laws shows that this is the export of one and the
 -- join of both; nothing here has to be believed.
-use Prim.Native.Nat.{ℕ, _+_, _*_, _≤_}
-use mathlib.Core.Path.{_≡_}
+use Prim.Native.Nat.{ℕ, _+_, _≤_}
 use mathlib.Core.Bool.{Bool, _&&_}
 use mathlib.Core.List.{List, _++_}
-use lib.ListN.{length, drop}
 use lib.Dec.{leb}
-use Rattle.vmd_format.specs.Layout.{Layout}
 use Rattle.vmd_format.specs.Refusal.{count-too-large}
 use Rattle.vmd_format.specs.Answer.{Answer, given, and-then, unless}
-use Rattle.vmd_format.specs.Records.{Property, bone, morph, camera, light, self-shadow}
-use Rattle.vmd_format.specs.Read.{lenient, fixed, table, write-counted}
+use Rattle.vmd_format.specs.Records.{bone, morph, camera, light, self-shadow}
+use Rattle.vmd_format.specs.Read.{lenient, fixed, write-counted}
 use Rattle.vmd_format.specs.Take.{property, Take}
-use Rattle.vmd_format.specs.Opening.{Part, Scan}
-use Rattle.vmd_format.specs.Places.{scan-file, Reaches}
-use Rattle.vmd_format.specs.PlacesLaws.{frames-in}
+use Rattle.vmd_format.specs.Opening.{Scan}
+use Rattle.vmd_format.specs.Places.{scan-file}
 use Rattle.vmd_format.specs.Join.{file-length}
 use Rattle.vmd_format.specs.ExportLaws.{Scanned}
-use Rattle.vmd_bytes.specs.Slices.{splice}
+use Rattle.vmd_output.specs.Sections.{records-of, frames-of}
 
 -- ---- counts and lengths
 
@@ -61,20 +57,6 @@ unfoldable pub scan-both : List ℕ → List ℕ → Answer (Scan × Scan)
 scan-both s t =
     and-then (scan-file lenient s) λ x. and-then (scan-file lenient t) λ y. unless (sums-fit x y) count-too-large (given (x, y))
 
--- ---- what is known of two sections, and of two files
-
--- records of one size: they lie in their files, and their counts added up fit
-pub record Parts (size : ℕ) (s : List ℕ) (p : Part) (t : List ℕ) (q : Part) : Type 0 where
-  pub first : p .place + p .count * size ≤ length s
-  pub second : q .place + q .count * size ≤ length t
-  pub sum : p .count + q .count ≤ 4294967295
-
--- property frames
-pub record Frames (s : List ℕ) (p : Part) (t : List ℕ) (q : Part) : Type 0 where
-  pub first : Reaches s (p .count) (p .place)
-  pub second : Reaches t (q .count) (q .place)
-  pub sum : p .count + q .count ≤ 4294967295
-
 -- two scanned files
 pub record Both (s : List ℕ) (x : Scan) (t : List ℕ) (y : Scan) : Type 0 where
   pub first : Scanned s x
@@ -82,13 +64,6 @@ pub record Both (s : List ℕ) (x : Scan) (t : List ℕ) (y : Scan) : Type 0 whe
   pub sums : Sums x y
 
 -- ---- what is written
-
--- the records of both
-unfoldable pub records-of : {A : Type 0} → Layout A → List ℕ → Part → List ℕ → Part → List A
-records-of K s p t q = table K (p .count) (drop (p .place) s) ++ table K (q .count) (drop (q .place) t)
-
-unfoldable pub frames-of : List ℕ → Part → List ℕ → Part → List Property
-frames-of s p t q = frames-in s (p .count) (p .place) ++ frames-in t (q .count) (q .place)
 
 -- the take of both, under a model name
 unfoldable pub take-of-both : List ℕ → List ℕ → Scan → List ℕ → Scan → Take
@@ -115,12 +90,3 @@ sections-bytes s x t y =
     ++ (write-counted (fixed morph) (records-of morph s (x .morphs) t (y .morphs))
     ++ (write-counted (fixed camera) (records-of camera s (x .cameras) t (y .cameras))
     ++ back-bytes s x t y))
-
--- there is room for these bytes from a place on
-pub record Room (l : List ℕ) (to : ℕ) (bytes : List ℕ) : Type 0 where
-  pub room : to + length bytes ≤ length l
-
--- they were written there, every other byte kept, and the place after them is given
-pub record Wrote (l : List ℕ) (to : ℕ) (bytes out : List ℕ) (place : ℕ) : Type 0 where
-  pub holds : out ≡ splice l to bytes
-  pub ends : place ≡ to + length bytes

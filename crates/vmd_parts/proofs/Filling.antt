@@ -1,6 +1,6 @@
 -- Laws of bones and morphs from their columns: what stands at an index, its bytes, and a loop that writes them. Assumes nothing.
 use Prim.Native.Nat.{ℕ, zero, suc, _+_, _-_, _*_, _≤_, _<_}
-use mathlib.Core.Path.{_≡_, refl, ap, sym, _∙_}
+use mathlib.Core.Path.{_≡_, ap, sym, subst, _∙_}
 use mathlib.Core.Bool.{true, and-eq-true-iff}
 use mathlib.Core.List.{List, [], _∷_, _++_, map}
 use native.Mathlib.Nat.{sub-zero}
@@ -19,7 +19,7 @@ use Rattle.vmd_format.specs.Parts.{NameTable, Check, passes, _next_, each, fini
 use Rattle.vmd_format.specs.PartsLaws.{all-at, upto-length, next-passes, need-passes, each-passes}
 use Rattle.vmd_bytes.specs.Slices.{splice, part}
 use Rattle.vmd_bytes.proofs.Laws.{splice-nil, part-cons, padded-long}
-use Rattle.vmd_writers.proofs.Sections.{rest-written}
+use Rattle.vmd_output.specs.Written.{Room, Wrote, Rest, rest-as, rest-room, rest-then, rest-done}
 use Rattle.vmd_checks.specs.Meaning.{table-of, bits}
 use Rattle.vmd_checks.specs.Stages.{bone-right, morph-right}
 use Rattle.vmd_parts.specs.Stages.{BoneThere, bone-bytes, BonesFit, bone-of, MorphsFit, morph-of}
@@ -115,41 +115,34 @@ morph-is t x f w i h e = rw (e, bits-at w i h)
 
 pub record Filling {A : Type 0} (e : A → List ℕ) (w : ℕ) (f : ℕ → A) (n : ℕ) (out₀ : List ℕ) (to : ℕ) (out : List ℕ) (i q : ℕ) : Type 0 where
   pub inside : i ≤ n
-  pub room : q + (n - i) * w ≤ length out
-  pub kept : length out ≡ length out₀
-  pub whole : splice out q (write-all e (map f (upto i (n - i)))) ≡ splice out₀ to (write-all e (map f (upto 0 n)))
+  pub wide : (a : A) → length (e a) ≡ w
+  pub rest : Rest out₀ to (write-all e (map f (upto 0 n))) out q (write-all e (map f (upto i (n - i))))
 
 module _ {A : Type 0} {e : A → List ℕ} {w : ℕ} {f : ℕ → A} {n : ℕ} {out₀ : List ℕ} {to : ℕ} where
-  pub filling-start : to + n * w ≤ length out₀ → Filling e w f n out₀ to out₀ 0 to
-  filling-start h = record { inside = omega arith; room = rw sub-zero h; kept = refl; whole = rw sub-zero }
+  pub filling-start : ((a : A) → length (e a) ≡ w) → Room out₀ to (write-all e (map f (upto 0 n))) → Filling e w f n out₀ to out₀ 0 to
+  filling-start k h = record { inside = omega arith; wide = k; rest = rest-as (ap (λ x. write-all e (map f (upto 0 x))) (sym (sub-zero n))) h }
 
   module _ {out : List ℕ} {i q : ℕ} (g : Filling e w f n out₀ to out i q) where
-    more : i < n → n - i ≡ suc (n - (i + 1))
-    more h = omega arith
-
-    less : i < n → (n - i) * w ≡ w + (n - (i + 1)) * w
-    less h = ap (λ x. x * w) (more h) ∙ omega arith
+    one : i < n → Rest out₀ to (write-all e (map f (upto 0 n))) out q (e (f i) ++ write-all e (map f (upto (i + 1) (n - (i + 1)))))
+    unfolding upto write-all
+    one h =
+        let d : n - i ≡ suc (n - (i + 1)) = omega arith in
+        subst (λ v. Rest out₀ to (write-all e (map f (upto 0 n))) out q v)
+        (ap (λ x. write-all e (map f (upto i x))) d ∙ ap (λ x. e (f i) ++ write-all e (map f (upto x (n - (i + 1))))) (sym (add-one i))) (g .rest)
 
     pub filling-room : i < n → q + w ≤ length out
-    filling-room h = omega (arith, g .room, less h)
+    filling-room h = omega (arith, rest-room {u = e (f i)} (write-all e (map f (upto (i + 1) (n - (i + 1))))) (one h) .room, g .wide (f i))
 
-    pub filling-turn : {o v : List ℕ} → i < n → length (e (f i)) ≡ w → length o ≡ length out → o ≡ splice out q v → v ≡ e (f i)
-        → Filling e w f n out₀ to o (i + 1) (q + w)
-    unfolding upto
-    filling-turn h k l d z = record {
+    pub filling-turn : {o v : List ℕ} → i < n → o ≡ splice out q v → v ≡ e (f i) → Filling e w f n out₀ to o (i + 1) (q + w)
+    filling-turn h d z = record {
       inside = omega arith;
-      room = omega (arith, g .room, less h);
-      kept = l ∙ g .kept;
-      whole =
-          rw (d, z) (rest-written e (f i) (map f (upto (i + 1) (n - (i + 1)))) out q w k (filling-room h))
-          ∙ ap (λ x. splice out q (write-all e (e-cons x))) (add-one i) ∙ ap (λ x. splice out q (write-all e (map f (upto i x)))) (sym (more h)) ∙ g .whole;
+      wide = g .wide;
+      rest = rest-then (write-all e (map f (upto (i + 1) (n - (i + 1))))) (one h) (record { holds = d ∙ ap (splice out q) z; ends = ap (λ x. q + x) (sym (g .wide (f i))) });
     }
-      where
-        e-cons : ℕ → List A
-        e-cons x = f i ∷ map f (upto x (n - (i + 1)))
 
-    pub filling-end : n ≤ i → out ≡ splice out₀ to (write-all e (map f (upto 0 n)))
+    pub filling-end : n ≤ i → Wrote out₀ to (write-all e (map f (upto 0 n))) out q
     unfolding upto write-all
     filling-end h =
         let z : n - i ≡ 0 = omega arith in
-        sym (splice-nil out q) ∙ rw z at (g .whole)
+        let r : Rest out₀ to (write-all e (map f (upto 0 n))) out q [] = subst (λ x. Rest out₀ to (write-all e (map f (upto 0 n))) out q (write-all e (map f (upto i x)))) z (g .rest) in
+        rest-done r (record { holds = sym (splice-nil out q); ends = omega arith })

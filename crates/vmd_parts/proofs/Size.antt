@@ -1,14 +1,13 @@
 -- Laws of what the checks let through, and of the size of what is built. Assumes nothing.
 use Prim.Native.Nat.{ℕ, zero, suc, _+_, _-_, _*_, _/_, _%_, _≤_, _<_}
-use mathlib.Core.Path.{_≡_, refl, ap, sym, _∙_}
-use mathlib.Core.Bool.{Bool, true, false}
+use mathlib.Core.Path.{_≡_, ap, sym, _∙_}
+use mathlib.Core.Bool.{true}
 use mathlib.Core.List.{List, map}
 use native.Mathlib.Nat.{div-add-mod', mul-comm, add-zero}
 use native.Mathlib.Omega.{arith}
 use lib.ListN.{length, drop, length-map}
-use lib.Dec.{leb}
-use Rattle.vmd_format.specs.Refusal.{Refusal, parts-not-whole, output-too-short}
-use Rattle.vmd_format.specs.Answer.{Answer, declined, given, map-answer, unless, fitted, within}
+use Rattle.vmd_format.specs.Refusal.{Refusal, parts-not-whole}
+use Rattle.vmd_format.specs.Answer.{Answer, declined, map-answer, fitted, within}
 use Rattle.vmd_format.specs.Records.{ik-state}
 use Rattle.vmd_format.specs.Take.{write-take}
 use Rattle.vmd_format.specs.Lengths.{export-length}
@@ -19,6 +18,7 @@ use Rattle.vmd_format.specs.Bytes.{u32}
 use Rattle.vmd_format.specs.Parts.{Parts, names-of, frames, properties-of, upto, bone-at, morph-at, take-of-parts, passes, fails, _next_, each, is-got, name-check, bone-check, morph-check, parts-check, build}
 use Rattle.vmd_format.specs.PartsLaws.{upto-length, next-passes, need-passes, Counts, counts-pass, Columns, columns-pass, build-given, build-refused}
 use Rattle.vmd_writers.proofs.Sections.{camera-sized, light-sized, self-shadow-sized}
+use Rattle.vmd_output.proofs.Saves.{refused-answer, given-answer}
 use Rattle.vmd_checks.proofs.Properties.{frame-end, properties-framed}
 use Rattle.vmd_checks.proofs.Whole.{Whole, whole-are, records-length, whole-same}
 
@@ -74,8 +74,8 @@ pub column-length : {A : Type 0} (f : ℕ → A) (n : ℕ) → length (map f (up
 column-length f n = length-map (upto 0 n) f ∙ upto-length 0 n
 
 -- so many bones and morphs, and the record bytes as they are
-abbrev pub size-of : Parts → ℕ
-size-of p =
+abbrev pub size-of-parts : Parts → ℕ
+size-of-parts p =
     74 + 111 * length (p .bone-name-indices) + 23 * length (p .morph-name-indices) + length (p .cameras) + length (p .lights) + length (p .self-shadows)
     + length (p .properties)
 
@@ -108,7 +108,7 @@ module _ (p : Parts) (c : Checked p) where
   unfolding take-of-parts
   morphs-count = column-length (morph-at p) (length (p .morph-name-indices))
 
-  pub size-is : length (write-take (take-of-parts p)) ≡ size-of p
+  pub size-is : length (write-take (take-of-parts p)) ≡ size-of-parts p
   size-is =
       export-length (take-of-parts p)
       ∙ omega (arith, cameras-fill, lights-fill, self-shadows-fill, properties-fill, bones-count, morphs-count)
@@ -127,15 +127,7 @@ module _ (p : Parts) (c : Checked p) where
 -- ---- what building answers
 
 pub refused-built : (p : Parts) (n : ℕ) {k : Refusal} → parts-check p ≡ fails k → declined k ≡ map-answer length (fitted n (build p))
-unfolding map-answer fitted
-refused-built p n {k} e = rw (build-refused p k e)
+refused-built p n {k} e = refused-answer n (build p) k (build-refused p k e)
 
-pub sized-built : (p : Parts) (n : ℕ) {x : Answer ℕ} → parts-check p ≡ passes → x ≡ within n (size-of p) → x ≡ map-answer length (fitted n (build p))
-unfolding within fitted map-answer unless
-sized-built p n e h =
-    h
-    ∙ rw (build-given p e, ← size-is p (checked p e)) (go (leb (length (write-take (take-of-parts p))) n))
-  where
-    go : (b : Bool) → unless b output-too-short (given (length (write-take (take-of-parts p)))) ≡ map-answer length (unless b output-too-short (given (write-take (take-of-parts p))))
-    go true = refl
-    go false = refl
+pub sized-built : (p : Parts) (n : ℕ) {x : Answer ℕ} → parts-check p ≡ passes → x ≡ within n (size-of-parts p) → x ≡ map-answer length (fitted n (build p))
+sized-built p n e h = h ∙ given-answer (write-take (take-of-parts p)) (size-is p (checked p e)) n ∙ rw (build-given p e)

@@ -1,5 +1,5 @@
--- Laws of writing what the parts mean: the header, floats, records from columns, and sections. Assumes nothing.
-use Prim.Native.Nat.{ℕ, zero, suc, _+_, _-_, _*_, _/_, _≤_, _<_}
+-- Laws of writing what the parts mean: floats, and records from columns. Assumes nothing.
+use Prim.Native.Nat.{ℕ, zero, suc, _+_, _-_, _*_, _≤_, _<_}
 use mathlib.Core.Path.{_≡_, refl, ap, sym, _∙_}
 use mathlib.Core.Bool.{true, _&&_, and-eq-true-iff}
 use mathlib.Core.List.{List, [], _∷_, _++_, append-assoc}
@@ -8,29 +8,15 @@ use lib.ListN.{length, getD, take, drop, length-append, length-drop, length-map}
 use lib.Ieee.{Float, nan, binary32, toBits}
 use Rattle.vmd_format.specs.Bytes.{u32-bytes, padded}
 use Rattle.vmd_format.specs.BytesLaws.{padded-length}
-use Rattle.vmd_format.specs.Layout.{Layout}
-use Rattle.vmd_format.specs.Read.{table, fixed, write-all, write-counted}
-use Rattle.vmd_format.specs.Take.{property, magic, write-header}
-use Rattle.vmd_format.specs.Lengths.{property-length}
-use Rattle.vmd_format.specs.Places.{Reaches}
-use Rattle.vmd_format.specs.PlacesLaws.{table-length, frames-in}
-use Rattle.vmd_format.specs.Parts.{finite, all-finite, records-of, frames, properties-of, is-got}
+use Rattle.vmd_format.specs.Read.{write-all}
+use Rattle.vmd_format.specs.Parts.{finite, all-finite}
 use Rattle.vmd_bytes.specs.Slices.{splice, part}
 use Rattle.vmd_bytes.proofs.Laws.{splice-nil, splice-append-at, length-u32-bytes, length-part, part-add}
-use Rattle.vmd_writers.proofs.Sections.{Sized, rest-written}
+use Rattle.vmd_writers.proofs.Sections.{rest-written}
 use Rattle.vmd_checks.specs.Meaning.{bits}
 use Rattle.vmd_parts.specs.Stages.{BoneThere, bone-bytes}
 use Rattle.vmd_checks.proofs.Columns.{bits-cons}
-use Rattle.vmd_checks.proofs.Properties.{properties-framed}
-use Rattle.vmd_parts.proofs.Size.{properties-total}
 use Rattle.vmd_parts.proofs.Names.{number-over}
-
--- ---- the header
-
-pub header-written : {x o : List ℕ} (m l : List ℕ) → 50 ≤ length l
-    → x ≡ splice l 0 (magic ++ (0 ∷ 0 ∷ 0 ∷ 0 ∷ [])) → o ≡ splice x 30 (padded 20 m) → o ≡ splice l 0 (write-header m)
-unfolding write-header magic
-header-written m l h e f = f ∙ rw e (splice-append-at l 0 (magic ++ (0 ∷ 0 ∷ 0 ∷ 0 ∷ [])) (padded 20 m) 30 refl (omega arith))
 
 -- ---- floats
 
@@ -122,38 +108,6 @@ bone-written {y = y} s v t r a i l to b h e f g j k n =
     let q : to + 47 ≡ to + 19 + 28 = omega arith in
     named-at s v (u ++ (m ++ take 64 (drop (64 * i) a))) l to (omega arith) e f
     (k ∙ rw (j, g, p, q, splice-append-at y (to + 19) u m 12 lu (omega arith), splice-append-at y (to + 19) (u ++ m) (take 64 (drop (64 * i) a)) 28 lum (omega arith), append-assoc))
-
--- ---- sections
-
-pub section-written : {A : Type 0} {K : Layout A} {w : ℕ} {x o : List ℕ} → Sized K w → (s l : List ℕ) (at : ℕ) → at + 4 ≤ length l
-    → x ≡ splice l at (u32-bytes (length s / w)) → o ≡ splice x (at + 4) (write-all (K .encode) (table K (length s / w) s))
-    → o ≡ splice l at (write-counted (fixed K) (records-of K s))
-unfolding write-counted fixed records-of u32-bytes
-section-written {K = K} {w} k s l at h e f =
-    f
-    ∙ rw (e, splice-append-at l at (u32-bytes (length s / w)) (write-all (K .encode) (table K (length s / w) s)) 4 refl h)
-    (rw (table-length K (length s / K .size) s, k .size))
-
-properties-length : (s : List ℕ) (n : ℕ) → is-got (frames s) ≡ true → n ≡ length (properties-of s)
-    → length (write-all (property .write) (frames-in s n 0)) ≡ length s
-unfolding write-counted
-properties-length s n e q =
-    let f = properties-framed s e in
-    let g : frames-in s n 0 ≡ properties-of s = rw q (sym (f .are)) in
-    rw g (omega (arith, property-length (properties-of s), length-append (u32-bytes (length (properties-of s))) (write-all (property .write) (properties-of s)), length-u32-bytes (length (properties-of s)), properties-total s e))
-
-pub properties-ready : (s : List ℕ) (to m : ℕ) {n : ℕ} → is-got (frames s) ≡ true → n ≡ length (properties-of s) → to + length s ≤ m
-    → Reaches s n 0 × (to + length (write-all (property .write) (frames-in s n 0)) ≤ m)
-properties-ready s to m {n} e q h = (rw q (properties-framed s e .reaches), omega (arith, properties-length s n e q))
-
-pub properties-written : {x o : List ℕ} {n : ℕ} (s l : List ℕ) (at : ℕ) → is-got (frames s) ≡ true → n ≡ length (properties-of s) → at + 4 ≤ length l
-    → x ≡ splice l at (u32-bytes n) → o ≡ splice x (at + 4) (write-all (property .write) (frames-in s n 0))
-    → o ≡ splice l at (write-counted property (properties-of s))
-unfolding write-counted u32-bytes
-properties-written {n = n} s l at e q h f g =
-    let fr = properties-framed s e in
-    let are : frames-in s n 0 ≡ properties-of s = rw q (sym (fr .are)) in
-    g ∙ rw (f, are, splice-append-at l at (u32-bytes n) (write-all (property .write) (properties-of s)) 4 refl h, q)
 
 pub bits-length : (xs : List Float) → length (bits xs) ≡ length xs
 bits-length xs = length-map xs (toBits binary32)

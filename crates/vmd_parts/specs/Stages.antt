@@ -1,5 +1,5 @@
 -- What writing meets: the parts as the checks let them through, and the bytes in two halves. Definitions only.
-use Prim.Native.Nat.{ℕ, _+_, _*_, _/_, _%_, _≤_}
+use Prim.Native.Nat.{ℕ, _+_, _*_, _/_, _≤_}
 use mathlib.Core.Path.{_≡_}
 use mathlib.Core.Bool.{true}
 use mathlib.Core.List.{List, [], _++_}
@@ -72,9 +72,6 @@ front-bytes m b f = write-header m ++ (write-counted (fixed bone) b ++ write-cou
 
 -- record bytes as the checks let them through
 pub record RecordsFit (c l s p : List ℕ) : Type 0 where
-  pub cameras : length c % 61 ≡ 0
-  pub lights : length l % 28 ≡ 0
-  pub self-shadows : length s % 9 ≡ 0
   pub properties : is-got (frames p) ≡ true
   pub camera-count : length c / 61 ≤ 4294967295
   pub light-count : length l / 28 ≤ 4294967295

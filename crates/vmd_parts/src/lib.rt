@@ -1,15 +1,12 @@
 // Building a file from parts: a model name, name tables, record bytes and columns. Every part is checked before a byte is
 // written.
 use vmd_names::Check;
+use vmd_output::VmdWritten;
 use vmd_records::VmdParsedBoneFrame;
-use vmd_records::VmdParsedCameraFrame;
-use vmd_records::VmdParsedLightFrame;
 use vmd_records::VmdParsedMorphFrame;
-use vmd_records::VmdParsedSelfShadowFrame;
-use vmd_scan::HEADER_SIZE;
-use vmd_scan::MAGIC_SIZE;
-use vmd_scan::VMD_MAGIC;
 use vmd_scan::VmdRefusal;
+use vmd_scan::VmdSection;
+use vmd_writers::VmdKind;
 ghost use mathlib.Core.Path.{_≡_};
 ghost use mathlib.Core.Bool.{true, cond};
 ghost use mathlib.Core.List.{_∷_, _++_, map};
@@ -18,45 +15,27 @@ ghost use lib.ListN.{length, getD, take, drop};
 ghost use lib.Dec.{eqb};
 ghost use lib.Ieee.{binary32, toBits};
 ghost use Rattle.vmd_format.specs.Bytes.{u32-bytes, padded};
-ghost use Rattle.vmd_format.specs.Records.{bone, morph, camera, light, self-shadow};
+ghost use Rattle.vmd_format.specs.Records.{bone, morph};
 ghost use Rattle.vmd_format.specs.Read.{fixed, write-all, write-counted};
-ghost use Rattle.vmd_format.specs.Take.{property, write-header};
+ghost use Rattle.vmd_format.specs.Take.{property};
 ghost use Rattle.vmd_format.specs.Parts.{records-of, is-got, frames, properties-of, finite, all-finite, upto, build};
 ghost use Rattle.vmd_format.specs.Answer.{fitted, map-answer, within, left};
 ghost use Rattle.vmd_bytes.specs.Slices.{splice, part};
 ghost use Rattle.vmd_bytes.specs.Words.{digits};
 ghost use Rattle.vmd_checks.specs.Meaning.{table-of, bits, parts-of};
-ghost use Rattle.vmd_parts.specs.Meaning.{built-answer};
+ghost use Rattle.vmd_writers.specs.Kinds.{layout, size-of};
+ghost use Rattle.vmd_output.specs.Meaning.{written-answer};
+ghost use Rattle.vmd_output.specs.Written.{Room, Wrote};
 ghost use Rattle.vmd_parts.specs.Stages.{BoneThere, bone-bytes, BonesFit, bone-of, MorphsFit, morph-of, front-bytes, RecordsFit, back-bytes};
 
 const BONE_SIZE: usize = VmdParsedBoneFrame::SIZE;
 
 const MORPH_SIZE: usize = VmdParsedMorphFrame::SIZE;
 
-const CAMERA_SIZE: usize = VmdParsedCameraFrame::SIZE;
-
-const LIGHT_SIZE: usize = VmdParsedLightFrame::SIZE;
-
-const SELF_SHADOW_SIZE: usize = VmdParsedSelfShadowFrame::SIZE;
-
-const MODEL_NAME_SIZE: usize = 20;
-
 // The name of a bone or a morph with the byte after it, which is two words.
 const NAME_WORDS: usize = 16;
 
-// The count before a section's records.
-const COUNT_SIZE: usize = 4;
-
-// The header and the counts of bones and morphs.
-const FRONT_SIZE: usize = HEADER_SIZE + 2 * COUNT_SIZE;
-
 // ---- the size
-
-// What building answers: how many bytes were written.
-pub enum VmdBuilt {
-    Refused(VmdRefusal),
-    Bytes(u64),
-}
 
 // The size of a file of so many bones and morphs and of these records, where it is within a limit. Only the bytes of the
 // properties can be so many that the sum would not fit.
@@ -68,18 +47,18 @@ fn size_within(
     self_shadows: usize,
     properties: usize,
     limit: usize,
-) -> VmdBuilt
+) -> VmdWritten
     requires { ⌜ (bones ≤ 4294967295) × (morphs ≤ 4294967295) × (cameras ≤ 261993004995) × (lights ≤ 120259084260) × («self_shadows» ≤ 38654705655) ⌝ }
-    ensures { λ r. ⌜ built-answer r ≡ within limit (74 + 111 * bones + 23 * morphs + cameras + lights + «self_shadows» + properties) ⌝ }
+    ensures { λ r. ⌜ written-answer r ≡ within limit (74 + 111 * bones + 23 * morphs + cameras + lights + «self_shadows» + properties) ⌝ }
 {
     let front = 74 + 111 * bones + 23 * morphs + cameras + lights + self_shadows;
     if limit < front {
-        return VmdBuilt::Refused(VmdRefusal::OutputTooShort);
+        return VmdWritten::Refused(VmdRefusal::OutputTooShort);
     }
     if limit - front < properties {
-        return VmdBuilt::Refused(VmdRefusal::OutputTooShort);
+        return VmdWritten::Refused(VmdRefusal::OutputTooShort);
     }
-    VmdBuilt::Bytes((front + properties) as u64)
+    VmdWritten::Bytes((front + properties) as u64)
 }
 
 // How many bytes building writes.
@@ -101,8 +80,8 @@ pub fn build_vmd_size(
     morph_name_indices: &[u32],
     morph_frames: &[u32],
     morph_weights: &[f32],
-) -> VmdBuilt
-    ensures { λ r. ⌜ built-answer r ≡ map-answer length (fitted 18446744073709551615 (build (parts-of (now («model_name» .entry)) (now («bone_name_bytes» .entry)) (now («bone_name_ends» .entry))
+) -> VmdWritten
+    ensures { λ r. ⌜ written-answer r ≡ map-answer length (fitted 18446744073709551615 (build (parts-of (now («model_name» .entry)) (now («bone_name_bytes» .entry)) (now («bone_name_ends» .entry))
         (now («morph_name_bytes» .entry)) (now («morph_name_ends» .entry)) (now («camera_frames» .entry)) (now («light_frames» .entry))
         (now («self_shadow_frames» .entry)) (now («property_frames» .entry)) (now («bone_name_indices» .entry)) (now («bone_frames» .entry))
         (now («bone_translations_xyz» .entry)) (now («bone_rotations_xyzw» .entry)) (now («bone_interpolations» .entry))
@@ -127,7 +106,7 @@ pub fn build_vmd_size(
         morph_frames,
         morph_weights,
     ) {
-        Check::Fails(k) => VmdBuilt::Refused(k),
+        Check::Fails(k) => VmdWritten::Refused(k),
         Check::Passes => size_within(
             bone_name_indices.len(),
             morph_name_indices.len(),
@@ -135,20 +114,12 @@ pub fn build_vmd_size(
             light_frames.len(),
             self_shadow_frames.len(),
             property_frames.len(),
-            0xffff_ffff_ffff_ffff,
+            vmd_output::LARGEST,
         ),
     }
 }
 
 // ---- writing
-
-fn write_header(model_name: &[u8], out: &mut [u8])
-    requires { ⌜ 50 ≤ length (now out) ⌝ }
-    ensures { λ _. ⌜ now (out .exit) ≡ splice (now (out .entry)) 0 (write-header (now («model_name» .entry))) ⌝ }
-{
-    vmd_bytes::copy_bytes(&VMD_MAGIC, 0, out, 0, MAGIC_SIZE);
-    vmd_bytes::write_fixed_bytes(model_name, out, MAGIC_SIZE, MODEL_NAME_SIZE);
-}
 
 // The n lowest bytes of a word, and zeros above them. A shift by all of a word's bits is undefined, so the mask is shifted
 // twice, by half each time.
@@ -287,41 +258,25 @@ fn write_morph_frame(
     vmd_bytes::write_u32_le(out, to + 19, vmd_bytes::float_to_bits(weight));
 }
 
-// A section: its count, and then its records.
-fn write_camera_section(src: &[u8], out: &mut [u8], at: usize)
-    requires { ⌜ (at + 4 + length (now src) ≤ length (now out)) × (length (now src) / 61 ≤ 4294967295) ⌝ }
-    ensures { λ _. ⌜ now (out .exit) ≡ splice (now (out .entry)) at (write-counted (fixed camera) (records-of camera (now (src .entry)))) ⌝ }
+// A section of the records of a kind that fill some bytes. The result is the place after it.
+fn write_records_section(out: &mut [u8], to: usize, kind: VmdKind, src: &[u8]) -> usize
+    requires { ⌜ (length (now src) / size-of kind ≤ 4294967295) × Room (now out) to (write-counted (fixed (layout kind)) (records-of (layout kind) (now src))) ⌝ }
+    ensures { λ r. ⌜ Wrote (now (out .entry)) to (write-counted (fixed (layout kind)) (records-of (layout kind) (now (src .entry)))) (now (out .exit)) r ⌝ }
 {
-    let n = src.len() / CAMERA_SIZE;
-    vmd_bytes::write_u32_le(out, at, n as u32);
-    vmd_writers::write_cameras(src, 0, out, at + COUNT_SIZE, n);
+    let size = kind.size();
+    let n = (src.len() / size) as u32;
+    let p = vmd_output::write_count(out, to, n);
+    vmd_output::write_rows(out, p, kind, src, VmdSection { count: n, place: 0 })
 }
 
-fn write_light_section(src: &[u8], out: &mut [u8], at: usize)
-    requires { ⌜ (at + 4 + length (now src) ≤ length (now out)) × (length (now src) / 28 ≤ 4294967295) ⌝ }
-    ensures { λ _. ⌜ now (out .exit) ≡ splice (now (out .entry)) at (write-counted (fixed light) (records-of light (now (src .entry)))) ⌝ }
+// The same of property frames.
+fn write_property_section(out: &mut [u8], to: usize, src: &[u8]) -> usize
+    requires { ⌜ (length (properties-of (now src)) ≤ 4294967295) × (is-got (frames (now src)) ≡ true) × Room (now out) to (write-counted property (properties-of (now src))) ⌝ }
+    ensures { λ r. ⌜ Wrote (now (out .entry)) to (write-counted property (properties-of (now (src .entry)))) (now (out .exit)) r ⌝ }
 {
-    let n = src.len() / LIGHT_SIZE;
-    vmd_bytes::write_u32_le(out, at, n as u32);
-    vmd_writers::write_lights(src, 0, out, at + COUNT_SIZE, n);
-}
-
-fn write_self_shadow_section(src: &[u8], out: &mut [u8], at: usize)
-    requires { ⌜ (at + 4 + length (now src) ≤ length (now out)) × (length (now src) / 9 ≤ 4294967295) ⌝ }
-    ensures { λ _. ⌜ now (out .exit) ≡ splice (now (out .entry)) at (write-counted (fixed self-shadow) (records-of self-shadow (now (src .entry)))) ⌝ }
-{
-    let n = src.len() / SELF_SHADOW_SIZE;
-    vmd_bytes::write_u32_le(out, at, n as u32);
-    vmd_writers::write_self_shadows(src, 0, out, at + COUNT_SIZE, n);
-}
-
-fn write_property_section(src: &[u8], out: &mut [u8], at: usize)
-    requires { ⌜ (at + 4 + length (now src) ≤ length (now out)) × (length (properties-of (now src)) ≤ 4294967295) × (is-got (frames (now src)) ≡ true) ⌝ }
-    ensures { λ _. ⌜ now (out .exit) ≡ splice (now (out .entry)) at (write-counted property (properties-of (now (src .entry)))) ⌝ }
-{
-    let n = vmd_checks::property_count(src);
-    vmd_bytes::write_u32_le(out, at, n as u32);
-    vmd_writers::write_properties(src, 0, out, at + COUNT_SIZE, n);
+    let n = vmd_checks::property_count(src) as u32;
+    let p = vmd_output::write_count(out, to, n);
+    vmd_output::write_frames(out, p, src, VmdSection { count: n, place: 0 })
 }
 
 // The bones from their columns.
@@ -335,11 +290,12 @@ fn write_bone_frames(
     interpolations: &[u8],
     out: &mut [u8],
     to: usize,
-)
+) -> usize
     requires { ⌜ BonesFit (table-of (now «bone_name_bytes») (now «bone_name_ends»)) (now indices) (now frames) (bits (now translations)) (bits (now rotations)) (now interpolations)
-        × (to + length (now indices) * 111 ≤ length (now out)) ⌝ }
-    ensures { λ _. ⌜ now (out .exit) ≡ splice (now (out .entry)) to (write-all (bone .encode) (map (bone-of (table-of (now («bone_name_bytes» .entry)) (now («bone_name_ends» .entry)))
-        (now (indices .entry)) (now (frames .entry)) (bits (now (translations .entry))) (bits (now (rotations .entry))) (now (interpolations .entry))) (upto 0 (length (now (indices .entry)))))) ⌝ }
+        × Room (now out) to (write-all (bone .encode) (map (bone-of (table-of (now «bone_name_bytes») (now «bone_name_ends»))
+        (now indices) (now frames) (bits (now translations)) (bits (now rotations)) (now interpolations)) (upto 0 (length (now indices))))) ⌝ }
+    ensures { λ r. ⌜ Wrote (now (out .entry)) to (write-all (bone .encode) (map (bone-of (table-of (now («bone_name_bytes» .entry)) (now («bone_name_ends» .entry)))
+        (now (indices .entry)) (now (frames .entry)) (bits (now (translations .entry))) (bits (now (rotations .entry))) (now (interpolations .entry))) (upto 0 (length (now (indices .entry)))))) (now (out .exit)) r ⌝ }
 {
     let mut i = 0;
     let mut q = to;
@@ -362,6 +318,7 @@ fn write_bone_frames(
         q += BONE_SIZE;
         i += 1;
     }
+    q
 }
 
 // The morphs from their columns.
@@ -373,10 +330,11 @@ fn write_morph_frames(
     weights: &[f32],
     out: &mut [u8],
     to: usize,
-)
-    requires { ⌜ MorphsFit (table-of (now «morph_name_bytes») (now «morph_name_ends»)) (now indices) (now frames) (bits (now weights)) × (to + length (now indices) * 23 ≤ length (now out)) ⌝ }
-    ensures { λ _. ⌜ now (out .exit) ≡ splice (now (out .entry)) to (write-all (morph .encode) (map (morph-of (table-of (now («morph_name_bytes» .entry)) (now («morph_name_ends» .entry)))
-        (now (indices .entry)) (now (frames .entry)) (bits (now (weights .entry)))) (upto 0 (length (now (indices .entry)))))) ⌝ }
+) -> usize
+    requires { ⌜ MorphsFit (table-of (now «morph_name_bytes») (now «morph_name_ends»)) (now indices) (now frames) (bits (now weights)) × Room (now out) to (write-all (morph .encode) (map (morph-of (table-of (now «morph_name_bytes») (now «morph_name_ends»))
+        (now indices) (now frames) (bits (now weights))) (upto 0 (length (now indices))))) ⌝ }
+    ensures { λ r. ⌜ Wrote (now (out .entry)) to (write-all (morph .encode) (map (morph-of (table-of (now («morph_name_bytes» .entry)) (now («morph_name_ends» .entry)))
+        (now (indices .entry)) (now (frames .entry)) (bits (now (weights .entry)))) (upto 0 (length (now (indices .entry)))))) (now (out .exit)) r ⌝ }
 {
     let mut i = 0;
     let mut q = to;
@@ -388,10 +346,12 @@ fn write_morph_frames(
         q += MORPH_SIZE;
         i += 1;
     }
+    q
 }
 
-// The header, the bones and the morphs.
+// The header, the bones and the morphs. The result is the place after them.
 fn write_front(
+    out: &mut [u8],
     model_name: &[u8],
     bone_name_bytes: &[u8],
     bone_name_ends: &[u32],
@@ -405,23 +365,26 @@ fn write_front(
     morph_name_indices: &[u32],
     morph_frames: &[u32],
     morph_weights: &[f32],
-    out: &mut [u8],
-)
+) -> usize
     requires { ⌜ BonesFit (table-of (now «bone_name_bytes») (now «bone_name_ends»)) (now «bone_name_indices») (now «bone_frames») (bits (now «bone_translations_xyz»)) (bits (now «bone_rotations_xyzw»)) (now «bone_interpolations») ⌝ }
     requires { ⌜ MorphsFit (table-of (now «morph_name_bytes») (now «morph_name_ends»)) (now «morph_name_indices») (now «morph_frames») (bits (now «morph_weights»)) ⌝ }
-    requires { ⌜ (length (now «bone_name_indices») ≤ 4294967295) × (length (now «morph_name_indices») ≤ 4294967295)
-        × (58 + length (now «bone_name_indices») * 111 + length (now «morph_name_indices») * 23 ≤ length (now out)) ⌝ }
-    ensures { λ _. ⌜ now (out .exit) ≡ splice (now (out .entry)) 0 (front-bytes (now («model_name» .entry))
+    requires { ⌜ (length (now «bone_name_indices») ≤ 4294967295) × (length (now «morph_name_indices») ≤ 4294967295) ⌝ }
+    requires { ⌜ Room (now out) 0 (front-bytes (now «model_name»)
+        (map (bone-of (table-of (now «bone_name_bytes») (now «bone_name_ends»)) (now «bone_name_indices») (now «bone_frames»)
+        (bits (now «bone_translations_xyz»)) (bits (now «bone_rotations_xyzw»)) (now «bone_interpolations»)) (upto 0 (length (now «bone_name_indices»))))
+        (map (morph-of (table-of (now «morph_name_bytes») (now «morph_name_ends»)) (now «morph_name_indices») (now «morph_frames»)
+        (bits (now «morph_weights»))) (upto 0 (length (now «morph_name_indices»))))) ⌝ }
+    ensures { λ r. ⌜ Wrote (now (out .entry)) 0 (front-bytes (now («model_name» .entry))
         (map (bone-of (table-of (now («bone_name_bytes» .entry)) (now («bone_name_ends» .entry))) (now («bone_name_indices» .entry)) (now («bone_frames» .entry))
         (bits (now («bone_translations_xyz» .entry))) (bits (now («bone_rotations_xyzw» .entry))) (now («bone_interpolations» .entry))) (upto 0 (length (now («bone_name_indices» .entry)))))
         (map (morph-of (table-of (now («morph_name_bytes» .entry)) (now («morph_name_ends» .entry))) (now («morph_name_indices» .entry)) (now («morph_frames» .entry))
-        (bits (now («morph_weights» .entry)))) (upto 0 (length (now («morph_name_indices» .entry)))))) ⌝ }
+        (bits (now («morph_weights» .entry)))) (upto 0 (length (now («morph_name_indices» .entry)))))) (now (out .exit)) r ⌝ }
 {
     let bones = bone_name_indices.len();
     let morphs = morph_name_indices.len();
-    write_header(model_name, out);
-    vmd_bytes::write_u32_le(out, HEADER_SIZE, bones as u32);
-    write_bone_frames(
+    let p = vmd_output::write_header(out, model_name);
+    let q = vmd_output::write_count(out, p, bones as u32);
+    let r = write_bone_frames(
         bone_name_bytes,
         bone_name_ends,
         bone_name_indices,
@@ -430,10 +393,9 @@ fn write_front(
         bone_rotations_xyzw,
         bone_interpolations,
         out,
-        HEADER_SIZE + COUNT_SIZE,
+        q,
     );
-    let at = HEADER_SIZE + COUNT_SIZE + bones * BONE_SIZE;
-    vmd_bytes::write_u32_le(out, at, morphs as u32);
+    let s = vmd_output::write_count(out, r, morphs as u32);
     write_morph_frames(
         morph_name_bytes,
         morph_name_ends,
@@ -441,30 +403,27 @@ fn write_front(
         morph_frames,
         morph_weights,
         out,
-        at + COUNT_SIZE,
-    );
+        s,
+    )
 }
 
-// Cameras, lights, self-shadows and properties.
+// Cameras, lights, self-shadows and properties. The result is the place after them.
 fn write_back(
+    out: &mut [u8],
+    to: usize,
     camera_frames: &[u8],
     light_frames: &[u8],
     self_shadow_frames: &[u8],
     property_frames: &[u8],
-    out: &mut [u8],
-    at: usize,
-)
+) -> usize
     requires { ⌜ RecordsFit (now «camera_frames») (now «light_frames») (now «self_shadow_frames») (now «property_frames»)
-        × (at + 16 + length (now «camera_frames») + length (now «light_frames») + length (now «self_shadow_frames») + length (now «property_frames») ≤ length (now out)) ⌝ }
-    ensures { λ _. ⌜ now (out .exit) ≡ splice (now (out .entry)) at (back-bytes (now («camera_frames» .entry)) (now («light_frames» .entry)) (now («self_shadow_frames» .entry)) (now («property_frames» .entry))) ⌝ }
+        × Room (now out) to (back-bytes (now «camera_frames») (now «light_frames») (now «self_shadow_frames») (now «property_frames»)) ⌝ }
+    ensures { λ r. ⌜ Wrote (now (out .entry)) to (back-bytes (now («camera_frames» .entry)) (now («light_frames» .entry)) (now («self_shadow_frames» .entry)) (now («property_frames» .entry))) (now (out .exit)) r ⌝ }
 {
-    write_camera_section(camera_frames, out, at);
-    let lights = at + COUNT_SIZE + camera_frames.len();
-    write_light_section(light_frames, out, lights);
-    let self_shadows = lights + COUNT_SIZE + light_frames.len();
-    write_self_shadow_section(self_shadow_frames, out, self_shadows);
-    let properties = self_shadows + COUNT_SIZE + self_shadow_frames.len();
-    write_property_section(property_frames, out, properties);
+    let p = write_records_section(out, to, VmdKind::Camera, camera_frames);
+    let q = write_records_section(out, p, VmdKind::Light, light_frames);
+    let r = write_records_section(out, q, VmdKind::SelfShadow, self_shadow_frames);
+    write_property_section(out, r, property_frames)
 }
 
 // Builds the file of the parts at the front of out.
@@ -487,8 +446,8 @@ pub fn build_vmd_animation_from_parts(
     morph_frames: &[u32],
     morph_weights: &[f32],
     out: &mut [u8],
-) -> VmdBuilt
-    ensures { λ r. ⌜ built-answer r ≡ map-answer length (fitted (length (now (out .entry))) (build (parts-of (now («model_name» .entry)) (now («bone_name_bytes» .entry)) (now («bone_name_ends» .entry))
+) -> VmdWritten
+    ensures { λ r. ⌜ written-answer r ≡ map-answer length (fitted (length (now (out .entry))) (build (parts-of (now («model_name» .entry)) (now («bone_name_bytes» .entry)) (now («bone_name_ends» .entry))
         (now («morph_name_bytes» .entry)) (now («morph_name_ends» .entry)) (now («camera_frames» .entry)) (now («light_frames» .entry))
         (now («self_shadow_frames» .entry)) (now («property_frames» .entry)) (now («bone_name_indices» .entry)) (now («bone_frames» .entry))
         (now («bone_translations_xyz» .entry)) (now («bone_rotations_xyzw» .entry)) (now («bone_interpolations» .entry))
@@ -518,7 +477,7 @@ pub fn build_vmd_animation_from_parts(
         morph_frames,
         morph_weights,
     ) {
-        Check::Fails(k) => VmdBuilt::Refused(k),
+        Check::Fails(k) => VmdWritten::Refused(k),
         Check::Passes => match size_within(
             bone_name_indices.len(),
             morph_name_indices.len(),
@@ -528,9 +487,10 @@ pub fn build_vmd_animation_from_parts(
             property_frames.len(),
             out.len(),
         ) {
-            VmdBuilt::Refused(k) => VmdBuilt::Refused(k),
-            VmdBuilt::Bytes(n) => {
-                write_front(
+            VmdWritten::Refused(k) => VmdWritten::Refused(k),
+            VmdWritten::Bytes(_) => {
+                let to = write_front(
+                    out,
                     model_name,
                     bone_name_bytes,
                     bone_name_ends,
@@ -544,20 +504,16 @@ pub fn build_vmd_animation_from_parts(
                     morph_name_indices,
                     morph_frames,
                     morph_weights,
-                    out,
                 );
-                let at = FRONT_SIZE
-                    + bone_name_indices.len() * BONE_SIZE
-                    + morph_name_indices.len() * MORPH_SIZE;
-                write_back(
+                let end = write_back(
+                    out,
+                    to,
                     camera_frames,
                     light_frames,
                     self_shadow_frames,
                     property_frames,
-                    out,
-                    at,
                 );
-                VmdBuilt::Bytes(n)
+                VmdWritten::Bytes(end as u64)
             }
         },
     }

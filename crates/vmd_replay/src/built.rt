@@ -2,7 +2,7 @@
 use crate::cases;
 use crate::cases::Outcome;
 use crate::written;
-use vmd_parts::VmdBuilt;
+use vmd_output::VmdWritten;
 ghost use mathlib.Core.Path.{_≡_};
 ghost use Prim.Native.Nat.{_*_, _≤_};
 ghost use lib.ListN.{length, take};
@@ -106,7 +106,7 @@ fn build(
     morph_frames: &[u32],
     weights: &[f32],
     out: &mut [u8],
-) -> VmdBuilt {
+) -> VmdWritten {
     vmd_parts::build_vmd_animation_from_parts(
         cases::string(list, first, 0),
         cases::string(list, first, 1),
@@ -139,7 +139,7 @@ fn with_morphs(
     translations: &[f32],
     rotations: &[f32],
     out: &mut [u8],
-) -> VmdBuilt {
+) -> VmdWritten {
     let mut indices = [0u32; 1024];
     let mut frames = [0u32; 1024];
     let mut weights = [0.0f32; 1024];
@@ -165,7 +165,7 @@ fn with_bones(
     bone_ends: &[u32],
     morph_ends: &[u32],
     out: &mut [u8],
-) -> VmdBuilt {
+) -> VmdWritten {
     let mut indices = [0u32; 1024];
     let mut frames = [0u32; 1024];
     let mut translations = [0.0f32; 1024];
@@ -183,7 +183,7 @@ fn with_bones(
     )
 }
 
-fn with_names(list: &[u8], first: usize, out: &mut [u8]) -> VmdBuilt {
+fn with_names(list: &[u8], first: usize, out: &mut [u8]) -> VmdWritten {
     let mut bone_ends = [0u32; 1024];
     let mut morph_ends = [0u32; 1024];
     with_bones(
@@ -197,7 +197,7 @@ fn with_names(list: &[u8], first: usize, out: &mut [u8]) -> VmdBuilt {
 
 pub fn built(list: &[u8], first: usize, out: &mut [u8]) -> Outcome {
     match with_names(list, first, out) {
-        VmdBuilt::Refused(k) => written::output(k.number(), out, 0),
-        VmdBuilt::Bytes(n) => written::output(0, out, n),
+        VmdWritten::Refused(k) => written::output(k.number(), out, 0),
+        VmdWritten::Bytes(n) => written::output(0, out, n),
     }
 }

@@ -2,7 +2,7 @@
 use crate::cases;
 use crate::cases::Outcome;
 use crate::digest;
-use vmd_export::VmdWritten;
+use vmd_output::VmdWritten;
 
 // The digest goes over the whole output, also past what was written, and then the number of bytes written.
 pub fn output(answer: u32, out: &[u8], n: u64) -> Outcome {

@@ -14,6 +14,9 @@ use Rattle.vmd_format.specs.Records.{bone, morph, camera, light, self-shadow, i
 use Rattle.vmd_format.specs.RecordLaws.{bone-lawful, morph-lawful, camera-lawful, light-lawful, self-shadow-lawful, ik-state-lawful}
 use Rattle.vmd_bytes.specs.Slices.{splice, part}
 use Rattle.vmd_bytes.proofs.Laws.{splice-nil, splice-append-at}
+use Rattle.vmd_writers.specs.declared.VmdKind.{VmdKind}
+use Rattle.vmd_writers.specs.declared.VmdKind.the-variants as kind
+use Rattle.vmd_writers.specs.Kinds.{layout, size-of}
 use Rattle.vmd_writers.proofs.Rewriting.{Rewrites, bone-rewrites, morph-rewrites, camera-rewrites, light-rewrites, self-shadow-rewrites, ik-state-rewrites}
 
 -- a record is w bytes in a file, and as many when it is written
@@ -41,6 +44,13 @@ self-shadow-sized = sized self-shadow-lawful self-shadow-rewrites
 
 pub ik-state-sized : Sized ik-state 21
 ik-state-sized = sized ik-state-lawful ik-state-rewrites
+
+pub kind-sized : (k : VmdKind) → Sized (layout k) (size-of k)
+kind-sized kind.Bone = bone-sized
+kind-sized kind.Morph = morph-sized
+kind-sized kind.Camera = camera-sized
+kind-sized kind.Light = light-sized
+kind-sized kind.SelfShadow = self-shadow-sized
 
 -- the first of some values is written, and then the others where it ends
 pub rest-written : {A : Type 0} (w : A → List ℕ) (a : A) (rest : List A) (l : List ℕ) (q n : ℕ) → length (w a) ≡ n → q + n ≤ length l

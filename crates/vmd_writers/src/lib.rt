@@ -16,6 +16,7 @@ ghost use Rattle.vmd_format.specs.Places.{next-frame, Reaches};
 ghost use Rattle.vmd_format.specs.PlacesLaws.{property-in, frames-in};
 ghost use Rattle.vmd_format.specs.Take.{property};
 ghost use Rattle.vmd_bytes.specs.Slices.{splice, part};
+ghost use Rattle.vmd_writers.specs.Kinds.{layout, size-of};
 
 // The size of each record; of a property frame, without its IK states.
 const BONE_SIZE: usize = VmdParsedBoneFrame::SIZE;
@@ -168,6 +169,44 @@ pub fn write_self_shadows(src: &[u8], at: usize, out: &mut [u8], to: usize, n: u
     ensures { λ _. ⌜ now (out .exit) ≡ splice (now (out .entry)) to (write-all (self-shadow .encode) (table self-shadow n (drop at (now (src .entry))))) ⌝ }
 {
     vmd_bytes::copy_bytes(src, at, out, to, n * SELF_SHADOW_SIZE);
+}
+
+// ---- a kind of record as a value: the kinds that have one size
+
+pub enum VmdKind {
+    Bone,
+    Morph,
+    Camera,
+    Light,
+    SelfShadow,
+}
+
+impl VmdKind {
+    pub fn size(self) -> usize
+        ensures { λ r. ⌜ r ≡ size-of self ⌝ }
+    {
+        match self {
+            VmdKind::Bone => BONE_SIZE,
+            VmdKind::Morph => MORPH_SIZE,
+            VmdKind::Camera => CAMERA_SIZE,
+            VmdKind::Light => LIGHT_SIZE,
+            VmdKind::SelfShadow => SELF_SHADOW_SIZE,
+        }
+    }
+}
+
+// n records of a kind. The kind is looked at once, so that each has its own loop.
+pub fn write_records(out: &mut [u8], to: usize, kind: VmdKind, src: &[u8], at: usize, n: usize)
+    requires { ⌜ (at + n * size-of kind ≤ length (now src)) × (to + n * size-of kind ≤ length (now out)) ⌝ }
+    ensures { λ _. ⌜ now (out .exit) ≡ splice (now (out .entry)) to (write-all (layout kind .encode) (table (layout kind) n (drop at (now (src .entry))))) ⌝ }
+{
+    match kind {
+        VmdKind::Bone => write_bones(src, at, out, to, n),
+        VmdKind::Morph => write_morphs(src, at, out, to, n),
+        VmdKind::Camera => write_cameras(src, at, out, to, n),
+        VmdKind::Light => write_lights(src, at, out, to, n),
+        VmdKind::SelfShadow => write_self_shadows(src, at, out, to, n),
+    }
 }
 
 // ---- IK states

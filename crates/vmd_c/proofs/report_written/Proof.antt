@@ -1,7 +1,7 @@
 -- `vmd_c::report_written` meets its contract. Assumes nothing.
 use mathlib.Core.Path.{refl, ap}
 use borrow.Author.Needs.{needs}
-use Rattle.vmd_export.specs.Meaning.{written-answer}
+use Rattle.vmd_output.specs.Meaning.{written-answer}
 use Rattle.vmd_c.proofs.Laws.{status-declined, status-given, slot-declined, slot-given}
 use Rattle.vmd_c.proofs.report_written.Statement.{statement}
 use Rattle.vmd_c.proofs.report_written.Tie as tie

@@ -7,7 +7,7 @@ use Rattle.vmd_c.proofs.vmd_build_animation_from_parts.Tie as tie
 returns : tie.Need-returns
 returns c =
     let w = c .before .before .before .before .build-vmd-animation-from-parts .ensures in
-    let r = handed _ _ (c .report-built .ensures) (w .0) in
+    let r = handed _ _ (c .report-written .ensures) (w .0) in
     (r .0, r .1, w .1)
 
 pub vmd-build-animation-from-parts-spec : {M : Type 1} → statement M

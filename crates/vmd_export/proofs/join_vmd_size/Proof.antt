@@ -3,31 +3,32 @@ use mathlib.Core.Path.{refl, sym, ap, _∙_}
 use native.Mathlib.Omega.{arith}
 use borrow.Author.Needs.{needs}
 use lib.ListN.{length}
+use Rattle.vmd_output.proofs.Saves.{refused-answer}
 use Rattle.vmd_format.specs.Answer.{map-answer, fitted}
+use Rattle.vmd_export.proofs.Laws.{both-size, join-refused, join-given, both-scanned}
 use Rattle.vmd_export.specs.Meaning.{both-answer}
-use Rattle.vmd_export.proofs.Laws.{refused-answer, both-size, join-refused, join-given, both-scanned}
 use Rattle.vmd_export.proofs.join_vmd_size.Statement.{statement}
 use Rattle.vmd_export.proofs.join_vmd_size.Tie as tie
 
 size-of-both-requires : tie.Need-size-of-both-requires
 size-of-both-requires c κs =
-    let a = c .before in
-    both-scanned _ _ _ _ (sym (a .before .before .scan-both .ensures) ∙ ap both-answer (a .a .given .1)) (omega arith) (omega arith) .sums
+    let b = c .before in
+    let s = b .before .before in
+    both-scanned _ _ _ _ (sym (s .scan-both .ensures) ∙ ap both-answer (b .a .given .1)) (omega arith) (omega arith) .sums
 
 returns : tie.Need-returns
 returns c =
-    let k = c .before in
-    refused-answer _ _ _ (join-refused _ _ _ (sym (k .before .before .scan-both .ensures) ∙ ap both-answer (k .k .given .1)))
+    let a = c .before in
+    let s = a .before .before in
+    refused-answer _ _ _ (join-refused _ _ _ (sym (s .scan-both .ensures) ∙ ap both-answer (a .k .given .1)))
 
 returns-2 : tie.Need-returns-2
 returns-2 c =
-    let a = c .before .before in
-    let e = sym (a .before .before .scan-both .ensures) ∙ ap both-answer (a .a .given .1) in
+    let b = c .before .before in
+    let s = b .before .before in
     c .size-of-both .ensures
-    ∙ both-size (both-scanned _ _ _ _ e (omega arith) (omega arith)) _ _
-    ∙ ap (λ w. map-answer length (fitted 18446744073709551615 w)) (join-given _ _ _ _ _ e refl)
+    ∙ both-size (both-scanned _ _ _ _ (sym (s .scan-both .ensures) ∙ ap both-answer (b .a .given .1)) (omega arith) (omega arith)) _ _
+    ∙ ap (λ w. map-answer length (fitted 18446744073709551615 w)) (join-given _ _ _ _ _ (sym (s .scan-both .ensures) ∙ ap both-answer (b .a .given .1)) refl)
 
 pub join-vmd-size-spec : {M : Type 1} → statement M
-join-vmd-size-spec =
-    tie.close (tie.spec
-    (λ c κs. search needs) (λ c. search needs) (λ c. search needs) size-of-both-requires returns returns-2)
+join-vmd-size-spec = tie.close (tie.spec (λ c κs. search needs) (λ c. search needs) (λ c. search needs) size-of-both-requires returns returns-2)

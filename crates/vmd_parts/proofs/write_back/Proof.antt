@@ -1,65 +1,52 @@
 -- `vmd_parts::write_back` meets its contract. Assumes nothing.
-use Rattle.vmd_parts.proofs.File.{back-written}
 use borrow.Author.Needs.{needs}
+use Rattle.vmd_output.specs.Written.{rest-all, rest-room, rest-then, rest-done}
+use Rattle.vmd_parts.specs.Stages.{back-bytes}
 use Rattle.vmd_parts.proofs.write_back.Statement.{statement}
 use Rattle.vmd_parts.proofs.write_back.Tie as tie
 
-write-camera-section-requires : tie.Need-write-camera-section-requires
-write-camera-section-requires c κs = search needs
+write-records-section-requires : tie.Need-write-records-section-requires
+unfolding back-bytes
+write-records-section-requires c κs =
+    let s = c .before .before .before .before .before .before in
+    (s .pre .0 .camera-count, rest-room _ (rest-all (s .pre .1)))
 
-add-lights : tie.Need-add-lights
-add-lights c = search needs
+write-records-section-requires-2 : tie.Need-write-records-section-requires-2
+unfolding back-bytes
+write-records-section-requires-2 c κs =
+    let w = c .before .before .before in
+    let s = w .before .before .before .before .before .before .before in
+    (s .pre .0 .light-count, rest-room _ (rest-then _ (rest-all (s .pre .1)) (w .write-records-section .ensures)))
 
-add-lights-2 : tie.Need-add-lights-2
-add-lights-2 c = search needs
-
-write-light-section-requires : tie.Need-write-light-section-requires
-write-light-section-requires c κs = search needs
-
-add-self-shadows : tie.Need-add-self-shadows
-add-self-shadows c = search needs
-
-add-self-shadows-2 : tie.Need-add-self-shadows-2
-add-self-shadows-2 c = search needs
-
-write-self-shadow-section-requires : tie.Need-write-self-shadow-section-requires
-write-self-shadow-section-requires c κs = search needs
-
-add-properties : tie.Need-add-properties
-add-properties c = search needs
-
-add-properties-2 : tie.Need-add-properties-2
-add-properties-2 c = search needs
+write-records-section-requires-3 : tie.Need-write-records-section-requires-3
+unfolding back-bytes
+write-records-section-requires-3 c κs =
+    let w = c .before .before .before in
+    let s = w .before .before .before .before in
+    let p = s .before .before .before .before .before .before .before in
+    (p .pre .0 .self-shadow-count, rest-room _ (rest-then _ (rest-then _ (rest-all (p .pre .1)) (s .write-records-section .ensures)) (w .write-records-section2 .ensures)))
 
 write-property-section-requires : tie.Need-write-property-section-requires
-write-property-section-requires c κs = search needs
-
-same-length : tie.Need-same-length
-same-length c = search needs
+unfolding back-bytes
+write-property-section-requires c κs =
+    let w = c .before .before .before in
+    let s = w .before .before .before .before in
+    let a = s .before .before .before .before in
+    let p = a .before .before .before .before .before .before .before in
+    (p .pre .0 .property-count, p .pre .0 .properties, rest-then _ (rest-then _ (rest-then _ (rest-all (p .pre .1)) (a .write-records-section .ensures)) (s .write-records-section2 .ensures)) (w .write-records-section3 .ensures) .room)
 
 returns : tie.Need-returns
+unfolding back-bytes
 returns c =
-    let p = c .before .before in
-    let s = p .before .before .before .before in
-    let l = s .before .before .before .before in
-    let k = l .before .before .before .before in
-    let a = k .before .before .before .before .before .before .before in
-    back-written (a .args .camera-frames .now) (a .args .light-frames .now) (a .args .self-shadow-frames .now) (a .args .property-frames .now) (a .args .out .now) (a .args .at)
-    (a .pre .0) (a .pre .1) (k .write-camera-section .ensures) (l .write-light-section .ensures) (s .write-self-shadow-section .ensures) (p .write-property-section .ensures)
+    let w = c .before .before in
+    let s = w .before .before .before .before in
+    let a = s .before .before .before .before in
+    let b = a .before .before .before .before in
+    let p = b .before .before .before .before .before .before .before in
+    rest-done (rest-then _ (rest-then _ (rest-then _ (rest-all (p .pre .1)) (b .write-records-section .ensures)) (a .write-records-section2 .ensures)) (s .write-records-section3 .ensures)) (w .write-property-section .ensures)
 
 pub write-back-spec : {M : Type 1} → statement M
 write-back-spec =
-    tie.close
-    (tie.spec
-    write-camera-section-requires
-    add-lights
-    add-lights-2
-    write-light-section-requires
-    add-self-shadows
-    add-self-shadows-2
-    write-self-shadow-section-requires
-    add-properties
-    add-properties-2
-    write-property-section-requires
-    same-length
-    returns)
+    tie.close (tie.spec
+    write-records-section-requires write-records-section-requires-2 write-records-section-requires-3
+    write-property-section-requires (λ c. search needs) returns)

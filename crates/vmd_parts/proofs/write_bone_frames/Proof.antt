@@ -61,13 +61,13 @@ loop-again c =
     let l = n .before .before .before in
     let s = l .before .before .before .before .before .before .before .before .before in
     let a = s .args in
-    filling-turn (l .loop .inv) (omega arith) (bone-sized .wide _) (w .write-bone-frame .kept .1 .1 .1 .1 .1 .1 .1 .1 .0) (w .write-bone-frame .ensures)
+    filling-turn (l .loop .inv) (omega arith) (w .write-bone-frame .ensures)
     (bone-is (table-of (a .bone-name-bytes .now) (a .bone-name-ends .now)) (a .indices .now) (a .frames .now) _ _ (a .interpolations .now) (l .loop .i) (bone-there (s .pre .0) (l .loop .i) (omega arith))
     (bone-named (s .pre .0) (l .loop .i) (omega arith) (n .name-start .ensures) .is))
 
 pub write-bone-frames-spec : {M : Type 1} → statement M
 write-bone-frames-spec =
-    tie.close (tie.spec Inv-loop μ-loop (λ c. filling-start (omega arith)) (λ c. search needs) (λ c. search needs) (λ c. omega (arith, c .shared-slice-known8 .given (c .before .before .loop .i))) name-start-requires
+    tie.close (tie.spec Inv-loop μ-loop (λ c. filling-start (bone-sized .wide) (c .before .before .before .before .before .before .before .before .pre .1)) (λ c. search needs) (λ c. search needs) (λ c. omega (arith, c .shared-slice-known8 .given (c .before .before .loop .i))) name-start-requires
     (λ c. omega (arith, c .before .shared-slice-known8 .given (c .before .before .before .loop .i))) shared-slice-read-n cast-n sub-n (λ c. omega arith)
     shared-slice-read-write-bone-frame write-bone-frame-requires (λ c. omega (arith, filling-room (c .before .before .before .before .before .before .before .before .before .loop .inv) (omega arith))) (λ c. search needs) (λ c. omega arith) loop-again
-    (λ c. c .before .loop .inv .kept) (λ c. filling-end (c .before .loop .inv) (c .loop-test .left)))
+    (λ c. c .before .loop .inv .rest .kept) (λ c. filling-end (c .before .loop .inv) (c .loop-test .left)))

@@ -74,14 +74,14 @@ loop-again c =
     let l = n .before .before .before in
     let s = l .before .before .before .before .before .before .before in
     let a = s .args in
-    filling-turn (l .loop .inv) (omega arith) (morph-sized .wide _) (w .write-morph-frame .kept .1 .1 .1 .1 .1 .0) (w .write-morph-frame .ensures)
+    filling-turn (l .loop .inv) (omega arith) (w .write-morph-frame .ensures)
     (morph-is (table-of (a .morph-name-bytes .now) (a .morph-name-ends .now)) (a .indices .now) (a .frames .now) (a .weights .now) (l .loop .i)
     (omega (arith, s .pre .0 .weighed, bits-length (a .weights .now))) (morph-named (a .weights .now) (s .pre .0) (l .loop .i) (omega arith) (n .name-start .ensures) .is))
 
 pub write-morph-frames-spec : {M : Type 1} → statement M
 write-morph-frames-spec =
-    tie.close (tie.spec Inv-loop μ-loop (λ c. filling-start (omega arith)) (λ c. search needs) (λ c. search needs) (λ c. omega (arith, c .shared-slice-known6 .given (c .before .before .loop .i))) name-start-requires
+    tie.close (tie.spec Inv-loop μ-loop (λ c. filling-start (morph-sized .wide) (c .before .before .before .before .before .before .pre .1)) (λ c. search needs) (λ c. search needs) (λ c. omega (arith, c .shared-slice-known6 .given (c .before .before .loop .i))) name-start-requires
     (λ c. omega (arith, c .before .shared-slice-known6 .given (c .before .before .before .loop .i))) shared-slice-read-n cast-n sub-n (λ c. omega arith)
     shared-slice-read-write-morph-frame mul-write-morph-frame-2 shared-slice-read-write-morph-frame-2 write-morph-frame-requires
     (λ c. omega (arith, filling-room (c .before .before .before .before .before .before .before .before .before .before .loop .inv) (omega arith))) (λ c. search needs) (λ c. omega arith) loop-again
-    (λ c. c .before .loop .inv .kept) (λ c. filling-end (c .before .loop .inv) (c .loop-test .left)))
+    (λ c. c .before .loop .inv .rest .kept) (λ c. filling-end (c .before .loop .inv) (c .loop-test .left)))

@@ -1,0 +1,82 @@
+-- Laws of what is written: the header, and a section. Assumes nothing.
+use Prim.Native.Nat.{ℕ, _+_, _*_, _≤_}
+use mathlib.Core.Path.{_≡_, refl, _∙_}
+use mathlib.Core.List.{List, [], _∷_, _++_, append-assoc}
+use native.Mathlib.Omega.{arith}
+use lib.ListN.{length, drop, length-append}
+use Rattle.vmd_format.specs.Bytes.{u32-bytes, padded}
+use Rattle.vmd_format.specs.Layout.{Layout}
+use Rattle.vmd_format.specs.Answer.{left}
+use Rattle.vmd_format.specs.Read.{Codec, fixed, table, write-all, write-counted}
+use Rattle.vmd_format.specs.Take.{property, magic, write-header}
+use Rattle.vmd_format.specs.Opening.{Part}
+use Rattle.vmd_format.specs.PlacesLaws.{table-length, frames-in}
+use Rattle.vmd_format.specs.ScanLaws.{frames-length}
+use Rattle.vmd_bytes.specs.Slices.{splice}
+use Rattle.vmd_bytes.proofs.Laws.{splice-append, length-padded}
+use Rattle.vmd_writers.specs.declared.VmdKind.{VmdKind}
+use Rattle.vmd_writers.specs.Kinds.{layout, size-of}
+use Rattle.vmd_writers.proofs.Sections.{section-length, kind-sized}
+use Rattle.vmd_output.specs.Written.{Room, Wrote, Rest, rest-as}
+use Rattle.vmd_output.specs.Sections.{rows, frame-rows, records-of, frames-of}
+
+-- ---- the header
+
+pub header-length : (m : List ℕ) → length (write-header m) ≡ 50
+unfolding write-header magic
+header-length m = omega (arith, length-padded 20 m)
+
+pub header-wrote : {l x y : List ℕ} (m : List ℕ) → Room l 0 (write-header m) → x ≡ splice l 0 (magic ++ (0 ∷ 0 ∷ 0 ∷ 0 ∷ []))
+    → y ≡ splice x 30 (padded 20 m) → Wrote l 0 (write-header m) y 50
+unfolding write-header magic
+header-wrote {l} m h a b = record {
+  holds = b ∙ rw a (splice-append l 0 (magic ++ (0 ∷ 0 ∷ 0 ∷ 0 ∷ [])) (padded 20 m) (omega (arith, h .room, header-length m)));
+  ends = omega (arith, header-length m);
+}
+
+-- ---- the records of one file
+
+module _ (k : VmdKind) (s : List ℕ) (p : Part) where
+  rows-length : length (rows (layout k) s p) ≡ p .count * size-of k
+  rows-length = section-length (kind-sized k) (p .count) (drop (p .place) s)
+
+  pub rows-room : {l : List ℕ} {to : ℕ} → Room l to (rows (layout k) s p) → to + p .count * size-of k ≤ length l
+  rows-room h = omega (arith, h .room, rows-length)
+
+  pub rows-wrote : {l o : List ℕ} {to z : ℕ} → z ≡ size-of k → o ≡ splice l to (rows (layout k) s p) → Wrote l to (rows (layout k) s p) o (to + p .count * z)
+  rows-wrote e h = record { holds = h; ends = rw (e, rows-length) }
+
+-- ---- a section: the count of both, the first file's records, the second's
+
+write-all-append : {A : Type 0} (w : A → List ℕ) (l m : List A) → write-all w (l ++ m) ≡ write-all w l ++ write-all w m
+unfolding write-all
+write-all-append w [] m = refl
+write-all-append w (a ∷ l) m = rw (write-all-append w l m, append-assoc)
+
+counted-both : {A : Type 0} (C : Codec A) (l m : List A) {i j : ℕ} → length l ≡ i → length m ≡ j
+    → write-counted C (l ++ m) ≡ u32-bytes (i + j) ++ (write-all (C .write) l ++ write-all (C .write) m)
+unfolding write-counted
+counted-both C l m e f = rw (length-append l m, write-all-append, e, f)
+
+module _ {A : Type 0} (K : Layout A) (s : List ℕ) (p : Part) (t : List ℕ) (q : Part) where
+  section-is : write-counted (fixed K) (records-of K s p t q) ≡ u32-bytes (p .count + q .count) ++ (rows K s p ++ rows K t q)
+  unfolding records-of fixed
+  section-is =
+      counted-both (fixed K) (table K (p .count) (drop (p .place) s)) (table K (q .count) (drop (q .place) t))
+      (table-length K (p .count) (drop (p .place) s)) (table-length K (q .count) (drop (q .place) t))
+
+  -- a section is to be written, and all of it is left
+  pub section-rest : {l : List ℕ} {to : ℕ} → Room l to (write-counted (fixed K) (records-of K s p t q))
+      → Rest l to (write-counted (fixed K) (records-of K s p t q)) l to (u32-bytes (p .count + q .count) ++ (rows K s p ++ rows K t q))
+  section-rest h = rest-as section-is h
+
+module _ (s : List ℕ) (p : Part) (t : List ℕ) (q : Part) where
+  frames-are : write-counted property (frames-of s p t q) ≡ u32-bytes (p .count + q .count) ++ (frame-rows s p ++ frame-rows t q)
+  unfolding frames-of
+  frames-are =
+      counted-both property (frames-in s (p .count) (p .place)) (frames-in t (q .count) (q .place))
+      (frames-length s (p .count) (p .place)) (frames-length t (q .count) (q .place))
+
+  pub frames-rest : {l : List ℕ} {to : ℕ} → Room l to (write-counted property (frames-of s p t q))
+      → Rest l to (write-counted property (frames-of s p t q)) l to (u32-bytes (p .count + q .count) ++ (frame-rows s p ++ frame-rows t q))
+  frames-rest h = rest-as frames-are h

@@ -1,0 +1,26 @@
+-- `vmd_output::file_size` meets its contract. Assumes nothing.
+use native.Mathlib.Omega.{arith}
+use borrow.Author.Needs.{needs}
+use Rattle.vmd_format.specs.AnswerLaws.{within-fits, within-over}
+use Rattle.vmd_format.specs.Join.{file-length}
+use Rattle.vmd_output.proofs.file_size.Statement.{statement}
+use Rattle.vmd_output.proofs.file_size.Tie as tie
+
+returns : tie.Need-returns
+unfolding file-length
+returns c = within-over _ _ (omega arith)
+
+returns-2 : tie.Need-returns-2
+unfolding file-length
+returns-2 c = within-over _ _ (omega arith)
+
+returns-3 : tie.Need-returns-3
+unfolding file-length
+returns-3 c = within-fits _ _ (omega arith)
+
+pub file-size-spec : {M : Type 1} → statement M
+file-size-spec =
+    tie.close (tie.spec
+    (λ c. search needs) (λ c. search needs) (λ c. search needs) (λ c. search needs) (λ c. search needs) (λ c. search needs)
+    (λ c. search needs) (λ c. search needs) (λ c. search needs) (λ c. search needs) (λ c. search needs) (λ c. search needs)
+    returns returns-2 (λ c. search needs) (λ c. search needs) returns-3)

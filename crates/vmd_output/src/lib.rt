@@ -1,0 +1,148 @@
+// The writing of a file, for every call that writes one: what it answers, how long a file is, the header, a count, and a
+// section from records of one file or two. Internal, but for the answer: callers see to the room. Every writer gives the place
+// after what it wrote, where the next one goes on.
+use vmd_records::VmdParsedBoneFrame;
+use vmd_records::VmdParsedCameraFrame;
+use vmd_records::VmdParsedIkState;
+use vmd_records::VmdParsedLightFrame;
+use vmd_records::VmdParsedMorphFrame;
+use vmd_records::VmdParsedPropertyFrame;
+use vmd_records::VmdParsedSelfShadowFrame;
+use vmd_scan::VmdRefusal;
+use vmd_scan::VmdSection;
+use vmd_writers::VmdKind;
+ghost use mathlib.Core.Path.{_≡_};
+ghost use Rattle.vmd_format.specs.Answer.{within};
+ghost use Rattle.vmd_format.specs.Bytes.{u32-bytes};
+ghost use Rattle.vmd_format.specs.Read.{fixed, write-counted};
+ghost use Rattle.vmd_format.specs.Take.{property, write-header};
+ghost use Rattle.vmd_format.specs.Join.{file-length};
+ghost use Rattle.vmd_format.specs.Places.{Reaches};
+ghost use Rattle.vmd_format.specs.ScanLaws.{PartWithin};
+ghost use Rattle.vmd_scan.specs.Meaning.{part-is};
+ghost use Rattle.vmd_writers.specs.Kinds.{layout, size-of};
+ghost use Rattle.vmd_output.specs.Meaning.{written-answer};
+ghost use Rattle.vmd_output.specs.Written.{Room, Wrote};
+ghost use Rattle.vmd_output.specs.Sections.{Parts, Frames, rows, frame-rows, records-of, frames-of};
+
+// What a call that writes answers: a refusal, or how many bytes.
+pub enum VmdWritten {
+    Refused(VmdRefusal),
+    Bytes(u64),
+}
+
+// ---- sizes, in bytes
+
+const COUNT_SIZE: usize = 4;
+
+const MODEL_SIZE: usize = vmd_scan::HEADER_SIZE - vmd_scan::MAGIC_SIZE;
+
+// A file of no records: the header and six counts.
+const LEAST_SIZE: usize = vmd_scan::HEADER_SIZE + 6 * COUNT_SIZE;
+
+// The largest length of an output.
+pub const LARGEST: usize = 0xffff_ffff_ffff_ffff;
+
+// How long a file of so many records is, where that is within a limit.
+pub fn file_size(
+    limit: usize,
+    bones: u32,
+    morphs: u32,
+    cameras: u32,
+    lights: u32,
+    self_shadows: u32,
+    properties: u32,
+    ik_states: u64,
+) -> VmdWritten
+    ensures { λ r. ⌜ written-answer r ≡ within limit (file-length bones morphs cameras lights «self_shadows» properties «ik_states») ⌝ }
+{
+    let states = ik_states as usize;
+    let fixed = LEAST_SIZE
+        + VmdParsedBoneFrame::SIZE * bones as usize
+        + VmdParsedMorphFrame::SIZE * morphs as usize
+        + VmdParsedCameraFrame::SIZE * cameras as usize
+        + VmdParsedLightFrame::SIZE * lights as usize
+        + VmdParsedSelfShadowFrame::SIZE * self_shadows as usize
+        + VmdParsedPropertyFrame::SIZE * properties as usize;
+    if limit < fixed {
+        return VmdWritten::Refused(VmdRefusal::OutputTooShort);
+    }
+    if (limit - fixed) / VmdParsedIkState::SIZE < states {
+        return VmdWritten::Refused(VmdRefusal::OutputTooShort);
+    }
+    VmdWritten::Bytes((fixed + VmdParsedIkState::SIZE * states) as u64)
+}
+
+// ---- the header, and a count
+
+pub fn write_header(out: &mut [u8], model: &[u8]) -> usize
+    requires { ⌜ Room (now out) 0 (write-header (now model)) ⌝ }
+    ensures { λ r. ⌜ Wrote (now (out .entry)) 0 (write-header (now (model .entry))) (now (out .exit)) r ⌝ }
+{
+    vmd_bytes::copy_bytes(&vmd_scan::VMD_MAGIC, 0, out, 0, vmd_scan::MAGIC_SIZE);
+    vmd_bytes::write_fixed_bytes(model, out, vmd_scan::MAGIC_SIZE, MODEL_SIZE);
+    vmd_scan::HEADER_SIZE
+}
+
+pub fn write_count(out: &mut [u8], to: usize, n: u32) -> usize
+    requires { ⌜ Room (now out) to (u32-bytes n) ⌝ }
+    ensures { λ r. ⌜ Wrote (now (out .entry)) to (u32-bytes n) (now (out .exit)) r ⌝ }
+{
+    vmd_bytes::write_u32_le(out, to, n);
+    to + COUNT_SIZE
+}
+
+// ---- a section: the count of both, then the first file's records, then the second's
+
+// The records of one.
+pub fn write_rows(out: &mut [u8], to: usize, kind: VmdKind, src: &[u8], a: VmdSection) -> usize
+    requires { ⌜ PartWithin (size-of kind) (now src) (part-is a) × Room (now out) to (rows (layout kind) (now src) (part-is a)) ⌝ }
+    ensures { λ r. ⌜ Wrote (now (out .entry)) to (rows (layout kind) (now (src .entry)) (part-is a)) (now (out .exit)) r ⌝ }
+{
+    let n = a.count as usize;
+    let size = kind.size();
+    vmd_writers::write_records(out, to, kind, src, a.place, n);
+    to + n * size
+}
+
+pub fn write_section(
+    out: &mut [u8],
+    to: usize,
+    kind: VmdKind,
+    first: &[u8],
+    a: VmdSection,
+    second: &[u8],
+    b: VmdSection,
+) -> usize
+    requires { ⌜ Parts (size-of kind) (now first) (part-is a) (now second) (part-is b) × Room (now out) to (write-counted (fixed (layout kind)) (records-of (layout kind) (now first) (part-is a) (now second) (part-is b))) ⌝ }
+    ensures { λ r. ⌜ Wrote (now (out .entry)) to (write-counted (fixed (layout kind)) (records-of (layout kind) (now (first .entry)) (part-is a) (now (second .entry)) (part-is b))) (now (out .exit)) r ⌝ }
+{
+    let p = write_count(out, to, a.count + b.count);
+    let q = write_rows(out, p, kind, first, a);
+    write_rows(out, q, kind, second, b)
+}
+
+// Property frames with their IK states: those of one.
+pub fn write_frames(out: &mut [u8], to: usize, src: &[u8], a: VmdSection) -> usize
+    requires { ⌜ Reaches (now src) (part-is a .count) (part-is a .place) × Room (now out) to (frame-rows (now src) (part-is a)) ⌝ }
+    ensures { λ r. ⌜ Wrote (now (out .entry)) to (frame-rows (now (src .entry)) (part-is a)) (now (out .exit)) r ⌝ }
+{
+    let n = a.count as usize;
+    vmd_writers::write_properties(src, a.place, out, to, n)
+}
+
+pub fn write_property_section(
+    out: &mut [u8],
+    to: usize,
+    first: &[u8],
+    a: VmdSection,
+    second: &[u8],
+    b: VmdSection,
+) -> usize
+    requires { ⌜ Frames (now first) (part-is a) (now second) (part-is b) × Room (now out) to (write-counted property (frames-of (now first) (part-is a) (now second) (part-is b))) ⌝ }
+    ensures { λ r. ⌜ Wrote (now (out .entry)) to (write-counted property (frames-of (now (first .entry)) (part-is a) (now (second .entry)) (part-is b))) (now (out .exit)) r ⌝ }
+{
+    let p = write_count(out, to, a.count + b.count);
+    let q = write_frames(out, p, first, a);
+    write_frames(out, q, second, b)
+}
