@@ -1,3 +1,4 @@
 pub mod Slices
 pub mod Fields
 pub mod Words
+pub mod Written

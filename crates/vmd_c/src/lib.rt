@@ -1,5 +1,6 @@
 // The library for C, thin over the calls of vmd_reader, vmd_export and vmd_parts. include/vmd.h says how C calls it. Every
 // function states what it returns, and every slot and buffer at exit, by equations with definitions.
+use vmd_base::VmdSection;
 use vmd_output::VmdWritten;
 use vmd_reader::VmdBoneAnswer;
 use vmd_reader::VmdCameraAnswer;
@@ -16,7 +17,6 @@ use vmd_records::VmdParsedCameraFrame;
 use vmd_records::VmdParsedIkState;
 use vmd_records::VmdParsedMorphFrame;
 use vmd_records::VmdParsedPropertyFrame;
-use vmd_scan::VmdSection;
 use vmd_scan::VmdSections;
 ghost use mathlib.Core.Path.{_≡_};
 ghost use Prim.Native.Nat.{_+_, _*_};
@@ -412,7 +412,7 @@ pub extern "C" fn vmd_model_name(file: &[u8], part: &mut [u64; 2])
         *part = [0, 0];
         return;
     }
-    *part = [vmd_scan::MAGIC_SIZE as u64, n as u64];
+    *part = [vmd_base::MAGIC_SIZE as u64, n as u64];
 }
 
 #[no_mangle]
@@ -524,10 +524,10 @@ pub extern "C" fn vmd_joined_model<'a>(first: &'a [u8], second: &'a [u8], part: 
         return;
     }
     if vmd_reader::model_name(first).len() == 0 {
-        *part = [1, vmd_scan::MAGIC_SIZE as u64, n as u64];
+        *part = [1, vmd_base::MAGIC_SIZE as u64, n as u64];
         return;
     }
-    *part = [0, vmd_scan::MAGIC_SIZE as u64, n as u64];
+    *part = [0, vmd_base::MAGIC_SIZE as u64, n as u64];
 }
 
 // ---- building

@@ -1,12 +1,11 @@
 // The checks of the parts that a file is built from, in their order. Internal.
+use vmd_base::VmdRefusal;
 use vmd_names::Check;
 use vmd_records::VmdParsedCameraFrame;
 use vmd_records::VmdParsedIkState;
 use vmd_records::VmdParsedLightFrame;
 use vmd_records::VmdParsedPropertyFrame;
 use vmd_records::VmdParsedSelfShadowFrame;
-use vmd_scan::IK_COUNT_OFFSET;
-use vmd_scan::VmdRefusal;
 ghost use mathlib.Core.Path.{_≡_};
 ghost use mathlib.Core.Bool.{true};
 ghost use Prim.Native.Nat.{_+_, _*_, _≤_, _<_};
@@ -249,7 +248,7 @@ fn count_frames(bytes: &[u8]) -> Frames
         if bytes.len() - at < PROPERTY_SIZE {
             return Frames::NotWhole;
         }
-        let count = vmd_bytes::read_u32_le(bytes, at + IK_COUNT_OFFSET);
+        let count = vmd_bytes::read_u32_le(bytes, at + VmdParsedPropertyFrame::IK_COUNT_OFFSET);
         let states = (count as usize) * IK_STATE_SIZE;
         if bytes.len() - at - PROPERTY_SIZE < states {
             return Frames::NotWhole;
@@ -287,7 +286,7 @@ fn properties_check(bytes: &[u8]) -> Check
     let mut at = 0;
     let mut left = property_count(bytes);
     while 0 < left {
-        let states = vmd_bytes::read_u32_le(bytes, at + IK_COUNT_OFFSET);
+        let states = vmd_bytes::read_u32_le(bytes, at + VmdParsedPropertyFrame::IK_COUNT_OFFSET);
         match ik_states_check(bytes, at + PROPERTY_SIZE, states as usize) {
             Check::Fails(k) => {
                 return Check::Fails(k);

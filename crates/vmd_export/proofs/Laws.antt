@@ -20,7 +20,8 @@ use Rattle.vmd_format.specs.Join.{export-file, joined-model, join, fit-together
 use Rattle.vmd_format.specs.ExportLaws.{take-in, Scanned, scan-scanned, export-by-places, join-by-places, scan-counts, join-length, join-fits}
 use Rattle.vmd_scan.proofs.Laws.{inside-reaches, inside-ends}
 use Rattle.vmd_output.specs.Sections.{Frames, records-of, frames-of}
-use Rattle.vmd_output.specs.Written.{Wrote, Rest, rest-as}
+use Rattle.vmd_bytes.specs.Written.{Wrote, Rest}
+use Rattle.vmd_bytes.proofs.Writes.{rest-as}
 use Rattle.vmd_output.proofs.Saves.{Saves, given-answer, saves-over, saves-room, saves-wrote}
 use Rattle.vmd_export.specs.Together.{no-scan, Sums, sums-fit, sum-length, scan-both, Both, back-bytes, sections-bytes, take-of-both}
 

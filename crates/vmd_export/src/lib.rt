@@ -1,11 +1,12 @@
 // Saving a take and joining two. Public: the pub calls ask nothing of their caller, and each states its answer, and every
 // byte lent, by an equation with a definition.
+use vmd_base::VmdManner;
+use vmd_base::VmdRefusal;
+use vmd_base::VmdSection;
 use vmd_output::VmdWritten;
+use vmd_records::VmdKind;
 use vmd_scan::ScanAnswer;
-use vmd_scan::VmdRefusal;
-use vmd_scan::VmdSection;
 use vmd_scan::VmdSections;
-use vmd_writers::VmdKind;
 ghost use mathlib.Core.Path.{_≡_};
 ghost use mathlib.Core.Bool.{_&&_};
 ghost use Prim.Native.Nat.{_+_};
@@ -19,7 +20,7 @@ ghost use Rattle.vmd_format.specs.Join.{joined-model};
 ghost use Rattle.vmd_format.specs.Places.{scan-file};
 ghost use Rattle.vmd_scan.specs.Meaning.{scan-is, scan-answer};
 ghost use Rattle.vmd_output.specs.Meaning.{written-answer};
-ghost use Rattle.vmd_output.specs.Written.{Room, Wrote};
+ghost use Rattle.vmd_bytes.specs.Written.{Room, Wrote};
 ghost use Rattle.vmd_export.specs.Meaning.{both-answer};
 ghost use Rattle.vmd_export.specs.Saved.{exported-answer, exported-output, joined-answer, joined-output, export-size, join-size};
 ghost use Rattle.vmd_export.specs.Together.{no-scan, Sums, sums-fit, sum-length, scan-both, Both, back-bytes, sections-bytes, take-of-both};
@@ -90,7 +91,7 @@ enum BothAnswer {
 fn scan_one(file: &[u8]) -> ScanAnswer
     ensures { λ r. ⌜ scan-answer r ≡ scan-file lenient (now (file .entry)) ⌝ }
 {
-    vmd_scan::scan_file(file, vmd_scan::lenient())
+    vmd_scan::scan_file(file, VmdManner::Lenient)
 }
 
 // Two files whose counts added up fit 32 bits.

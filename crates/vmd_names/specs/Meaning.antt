@@ -1,6 +1,6 @@
 -- What the types of the code mean in the terms of the format, by cases. Definitions only.
 use Rattle.vmd_format.specs.Parts as format
-use Rattle.vmd_scan.specs.Meaning.{refusal-of}
+use Rattle.vmd_base.specs.Meaning.{refusal-of}
 use Rattle.vmd_names.specs.declared.Check.{Check}
 use Rattle.vmd_names.specs.declared.Check.the-variants.{Passes, Fails}
 

@@ -1,5 +1,5 @@
 // The test of a name's bytes. Internal, but for first_fault, which asks nothing of its caller.
-use vmd_scan::VmdRefusal;
+use vmd_base::VmdRefusal;
 ghost use mathlib.Core.Path.{_≡_};
 ghost use Prim.Native.Nat.{_<_};
 ghost use lib.ListN.{length, drop};

@@ -14,10 +14,11 @@ use Rattle.vmd_format.specs.PlacesLaws.{table-length, frames-in}
 use Rattle.vmd_format.specs.ScanLaws.{frames-length}
 use Rattle.vmd_bytes.specs.Slices.{splice}
 use Rattle.vmd_bytes.proofs.Laws.{splice-append, length-padded}
-use Rattle.vmd_writers.specs.declared.VmdKind.{VmdKind}
-use Rattle.vmd_writers.specs.Kinds.{layout, size-of}
+use Rattle.vmd_records.specs.declared.VmdKind.{VmdKind}
+use Rattle.vmd_records.specs.Kinds.{layout, size-of}
 use Rattle.vmd_writers.proofs.Sections.{section-length, kind-sized}
-use Rattle.vmd_output.specs.Written.{Room, Wrote, Rest, rest-as}
+use Rattle.vmd_bytes.specs.Written.{Room, Wrote, Rest}
+use Rattle.vmd_bytes.proofs.Writes.{rest-as}
 use Rattle.vmd_output.specs.Sections.{rows, frame-rows, records-of, frames-of}
 
 -- ---- the header

@@ -11,7 +11,7 @@ use lib.ListN.{length}
 use Rattle.vmd_format.specs.Refusal.{Refusal, output-too-short}
 use Rattle.vmd_format.specs.Answer.{Answer, declined, given, map-answer, unless, fitted, left, within}
 use Rattle.vmd_bytes.specs.Slices.{splice}
-use Rattle.vmd_output.specs.Written.{Room, Wrote}
+use Rattle.vmd_bytes.specs.Written.{Room, Wrote}
 
 -- A call that is to write w into out answers a and leaves o.
 abbrev pub Saves : Answer (List ℕ) → List ℕ → Answer ℕ → List ℕ → Type 0

@@ -1,6 +1,9 @@
 // The writing of a file, for every call that writes one: what it answers, how long a file is, the header, a count, and a
 // section from records of one file or two. Internal, but for the answer: callers see to the room. Every writer gives the place
 // after what it wrote, where the next one goes on.
+use vmd_base::VmdRefusal;
+use vmd_base::VmdSection;
+use vmd_records::VmdKind;
 use vmd_records::VmdParsedBoneFrame;
 use vmd_records::VmdParsedCameraFrame;
 use vmd_records::VmdParsedIkState;
@@ -8,9 +11,6 @@ use vmd_records::VmdParsedLightFrame;
 use vmd_records::VmdParsedMorphFrame;
 use vmd_records::VmdParsedPropertyFrame;
 use vmd_records::VmdParsedSelfShadowFrame;
-use vmd_scan::VmdRefusal;
-use vmd_scan::VmdSection;
-use vmd_writers::VmdKind;
 ghost use mathlib.Core.Path.{_≡_};
 ghost use Rattle.vmd_format.specs.Answer.{within};
 ghost use Rattle.vmd_format.specs.Bytes.{u32-bytes};
@@ -19,10 +19,10 @@ ghost use Rattle.vmd_format.specs.Take.{property, write-header};
 ghost use Rattle.vmd_format.specs.Join.{file-length};
 ghost use Rattle.vmd_format.specs.Places.{Reaches};
 ghost use Rattle.vmd_format.specs.ScanLaws.{PartWithin};
-ghost use Rattle.vmd_scan.specs.Meaning.{part-is};
-ghost use Rattle.vmd_writers.specs.Kinds.{layout, size-of};
+ghost use Rattle.vmd_base.specs.Meaning.{part-is};
+ghost use Rattle.vmd_records.specs.Kinds.{layout, size-of};
 ghost use Rattle.vmd_output.specs.Meaning.{written-answer};
-ghost use Rattle.vmd_output.specs.Written.{Room, Wrote};
+ghost use Rattle.vmd_bytes.specs.Written.{Room, Wrote};
 ghost use Rattle.vmd_output.specs.Sections.{Parts, Frames, rows, frame-rows, records-of, frames-of};
 
 // What a call that writes answers: a refusal, or how many bytes.
@@ -35,10 +35,10 @@ pub enum VmdWritten {
 
 const COUNT_SIZE: usize = 4;
 
-const MODEL_SIZE: usize = vmd_scan::HEADER_SIZE - vmd_scan::MAGIC_SIZE;
+const MODEL_SIZE: usize = vmd_base::HEADER_SIZE - vmd_base::MAGIC_SIZE;
 
 // A file of no records: the header and six counts.
-const LEAST_SIZE: usize = vmd_scan::HEADER_SIZE + 6 * COUNT_SIZE;
+const LEAST_SIZE: usize = vmd_base::HEADER_SIZE + 6 * COUNT_SIZE;
 
 // The largest length of an output.
 pub const LARGEST: usize = 0xffff_ffff_ffff_ffff;
@@ -79,9 +79,9 @@ pub fn write_header(out: &mut [u8], model: &[u8]) -> usize
     requires { ⌜ Room (now out) 0 (write-header (now model)) ⌝ }
     ensures { λ r. ⌜ Wrote (now (out .entry)) 0 (write-header (now (model .entry))) (now (out .exit)) r ⌝ }
 {
-    vmd_bytes::copy_bytes(&vmd_scan::VMD_MAGIC, 0, out, 0, vmd_scan::MAGIC_SIZE);
-    vmd_bytes::write_fixed_bytes(model, out, vmd_scan::MAGIC_SIZE, MODEL_SIZE);
-    vmd_scan::HEADER_SIZE
+    vmd_bytes::copy_bytes(&vmd_base::VMD_MAGIC, 0, out, 0, vmd_base::MAGIC_SIZE);
+    vmd_bytes::write_fixed_bytes(model, out, vmd_base::MAGIC_SIZE, MODEL_SIZE);
+    vmd_base::HEADER_SIZE
 }
 
 pub fn write_count(out: &mut [u8], to: usize, n: u32) -> usize

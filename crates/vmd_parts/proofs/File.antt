@@ -18,11 +18,12 @@ use Rattle.vmd_format.specs.PlacesLaws.{table-length}
 use Rattle.vmd_format.specs.ScanLaws.{PartWithin}
 use Rattle.vmd_format.specs.Parts.{NameTable, Parts, records-of, is-got, frames, properties-of, upto, bone-at, morph-at, take-of-parts, passes, fails, parts-check, build, bone-check, morph-check}
 use Rattle.vmd_format.specs.PartsLaws.{build-given, build-refused}
-use Rattle.vmd_writers.specs.declared.VmdKind.{VmdKind}
-use Rattle.vmd_writers.specs.declared.VmdKind.the-variants as kind
-use Rattle.vmd_writers.specs.Kinds.{layout, size-of}
+use Rattle.vmd_records.specs.declared.VmdKind.{VmdKind}
+use Rattle.vmd_records.specs.declared.VmdKind.the-variants as kind
+use Rattle.vmd_records.specs.Kinds.{layout, size-of}
 use Rattle.vmd_writers.proofs.Sections.{kind-sized, camera-sized, light-sized, self-shadow-sized}
-use Rattle.vmd_output.specs.Written.{Room, Wrote, Rest, rest-as}
+use Rattle.vmd_bytes.specs.Written.{Room, Wrote, Rest}
+use Rattle.vmd_bytes.proofs.Writes.{rest-as}
 use Rattle.vmd_output.specs.Sections.{rows, frame-rows}
 use Rattle.vmd_output.proofs.Saves.{Saves, same-saved, saves-nothing, saves-over, saves-room, saves-wrote}
 use Rattle.vmd_checks.specs.Stages.{bone-right, morph-right}

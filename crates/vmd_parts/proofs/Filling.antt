@@ -19,7 +19,8 @@ use Rattle.vmd_format.specs.Parts.{NameTable, Check, passes, _next_, each, fini
 use Rattle.vmd_format.specs.PartsLaws.{all-at, upto-length, next-passes, need-passes, each-passes}
 use Rattle.vmd_bytes.specs.Slices.{splice, part}
 use Rattle.vmd_bytes.proofs.Laws.{splice-nil, part-cons, padded-long}
-use Rattle.vmd_output.specs.Written.{Room, Wrote, Rest, rest-as, rest-room, rest-then, rest-done}
+use Rattle.vmd_bytes.specs.Written.{Room, Wrote, Rest}
+use Rattle.vmd_bytes.proofs.Writes.{rest-as, rest-room, rest-then, rest-done}
 use Rattle.vmd_checks.specs.Meaning.{table-of, bits}
 use Rattle.vmd_checks.specs.Stages.{bone-right, morph-right}
 use Rattle.vmd_parts.specs.Stages.{BoneThere, bone-bytes, BonesFit, bone-of, MorphsFit, morph-of}

@@ -1,12 +1,12 @@
 // Building a file from parts: a model name, name tables, record bytes and columns. Every part is checked before a byte is
 // written.
+use vmd_base::VmdRefusal;
+use vmd_base::VmdSection;
 use vmd_names::Check;
 use vmd_output::VmdWritten;
+use vmd_records::VmdKind;
 use vmd_records::VmdParsedBoneFrame;
 use vmd_records::VmdParsedMorphFrame;
-use vmd_scan::VmdRefusal;
-use vmd_scan::VmdSection;
-use vmd_writers::VmdKind;
 ghost use mathlib.Core.Path.{_≡_};
 ghost use mathlib.Core.Bool.{true, cond};
 ghost use mathlib.Core.List.{_∷_, _++_, map};
@@ -23,9 +23,9 @@ ghost use Rattle.vmd_format.specs.Answer.{fitted, map-answer, within, left};
 ghost use Rattle.vmd_bytes.specs.Slices.{splice, part};
 ghost use Rattle.vmd_bytes.specs.Words.{digits};
 ghost use Rattle.vmd_checks.specs.Meaning.{table-of, bits, parts-of};
-ghost use Rattle.vmd_writers.specs.Kinds.{layout, size-of};
+ghost use Rattle.vmd_records.specs.Kinds.{layout, size-of};
 ghost use Rattle.vmd_output.specs.Meaning.{written-answer};
-ghost use Rattle.vmd_output.specs.Written.{Room, Wrote};
+ghost use Rattle.vmd_bytes.specs.Written.{Room, Wrote};
 ghost use Rattle.vmd_parts.specs.Stages.{BoneThere, bone-bytes, BonesFit, bone-of, MorphsFit, morph-of, front-bytes, RecordsFit, back-bytes};
 
 const BONE_SIZE: usize = VmdParsedBoneFrame::SIZE;

@@ -4,7 +4,8 @@ use mathlib.Core.List.{List}
 use Rattle.vmd_format.specs.Answer.{Answer, declined, given, and-then}
 use Rattle.vmd_format.specs.Opening.{Part, Opening}
 use Rattle.vmd_format.specs.Fetch.{record-place, property-place, ik-part}
-use Rattle.vmd_scan.specs.Meaning.{refusal-of, scan-is}
+use Rattle.vmd_base.specs.Meaning.{refusal-of}
+use Rattle.vmd_scan.specs.Meaning.{scan-is}
 use Rattle.vmd_records.specs.declared.VmdParsedBoneFrame.{VmdParsedBoneFrame}
 use Rattle.vmd_records.specs.declared.VmdParsedMorphFrame.{VmdParsedMorphFrame}
 use Rattle.vmd_records.specs.declared.VmdParsedCameraFrame.{VmdParsedCameraFrame}

@@ -1,5 +1,9 @@
 // Opening a take, and its records, names and interpolation bytes by number. Public: no call asks anything of its caller, and
 // each states its answer, and every byte lent, by an equation with a definition.
+use vmd_base::MAGIC_SIZE;
+use vmd_base::VmdManner;
+use vmd_base::VmdRefusal;
+use vmd_base::VmdSection;
 use vmd_records::VmdParsedBoneFrame;
 use vmd_records::VmdParsedCameraFrame;
 use vmd_records::VmdParsedIkState;
@@ -10,8 +14,6 @@ use vmd_records::VmdParsedPropertyFrame;
 use vmd_records::VmdParsedSelfShadowFrame;
 use vmd_scan::HeaderAnswer;
 use vmd_scan::ScanAnswer;
-use vmd_scan::VmdRefusal;
-use vmd_scan::VmdSection;
 use vmd_scan::VmdSections;
 ghost use mathlib.Core.Path.{_≡_};
 ghost use Prim.Native.Nat.{_≤_};
@@ -24,7 +26,8 @@ ghost use Rattle.vmd_format.specs.Places.{open-scan, scan-scratch};
 ghost use Rattle.vmd_format.specs.ScanLaws.{Inside};
 ghost use Rattle.vmd_format.specs.Fetch.{record-place, fetch, or-empty, model-of, property-place, fetch-property, fetch-ik-state};
 ghost use Rattle.vmd_records.specs.Fields.{bone-fields, morph-fields, camera-fields, light-floats, light-bits, self-shadow-fields, property-fields, ik-fields};
-ghost use Rattle.vmd_scan.specs.Meaning.{part-is, scan-is};
+ghost use Rattle.vmd_base.specs.Meaning.{part-is};
+ghost use Rattle.vmd_scan.specs.Meaning.{scan-is};
 ghost use Rattle.vmd_reader.specs.Meaning.{opening-is, opening-answer, place-answer, ik-place, bone-answer, morph-answer, camera-answer, light-answer, light-bits-answer, self-shadow-answer, property-answer, ik-state-answer};
 
 // What opening gives: the sections' counts and places, the number of IK states, and the largest frame.
@@ -111,7 +114,7 @@ pub fn parse_vmd_animation(file: &[u8], scratch: &mut [u64]) -> VmdOpened
     ensures { λ r. ⌜ opening-answer r ≡ open-file lenient (now (file .entry)) (length (now (scratch .entry))) ⌝ }
     ensures { λ r. ⌜ now (scratch .exit) ≡ scratch-after lenient (now (file .entry)) (now (scratch .entry)) ⌝ }
 {
-    match vmd_scan::scan_file(file, vmd_scan::lenient()) {
+    match vmd_scan::scan_file(file, VmdManner::Lenient) {
         ScanAnswer::Refused(k) => VmdOpened::Refused(k),
         ScanAnswer::Scanned(sections) => open_sections(file, sections, scratch),
     }
@@ -172,7 +175,7 @@ fn place_of_ik_state(
     match place_of_property(file, section, scratch, i) {
         VmdPlace::Refused(k) => VmdPlace::Refused(k),
         VmdPlace::At(at) => {
-            let count = vmd_bytes::read_u32_le(file, at + 5);
+            let count = vmd_bytes::read_u32_le(file, at + VmdParsedPropertyFrame::IK_COUNT_OFFSET);
             let place = at + VmdParsedPropertyFrame::SIZE;
             place_of(file, VmdSection { count, place }, VmdParsedIkState::SIZE, j)
         }
@@ -286,10 +289,6 @@ pub fn ik_state(
 
 // ---- names and interpolation bytes, parts of the file
 
-const NAME_WIDTH: usize = 15;
-
-const IK_NAME_WIDTH: usize = 20;
-
 // Empty where there is no such record.
 pub fn bone_name<'a>(file: &'a [u8], opening: VmdOpening, i: usize) -> &'a [u8]
     ensures { λ r. ⌜ now r ≡ or-empty (map-answer (λ x. x .name) (fetch bone (opening-is opening .scan .bones) i (now (file .entry)))) ⌝ }
@@ -297,7 +296,9 @@ pub fn bone_name<'a>(file: &'a [u8], opening: VmdOpening, i: usize) -> &'a [u8]
     let sections = opening.sections;
     match place_of(file, sections.bones, VmdParsedBoneFrame::SIZE, i) {
         VmdPlace::Refused(_) => &file[..0],
-        VmdPlace::At(at) => vmd_bytes::trim_fixed_bytes(&file[at..at + NAME_WIDTH]),
+        VmdPlace::At(at) => vmd_bytes::trim_fixed_bytes(
+            &file[at..at + VmdParsedBoneFrame::NAME_WIDTH],
+        ),
     }
 }
 
@@ -308,7 +309,9 @@ pub fn morph_name<'a>(file: &'a [u8], opening: VmdOpening, i: usize) -> &'a [u8]
     let sections = opening.sections;
     match place_of(file, sections.morphs, VmdParsedMorphFrame::SIZE, i) {
         VmdPlace::Refused(_) => &file[..0],
-        VmdPlace::At(at) => vmd_bytes::trim_fixed_bytes(&file[at..at + NAME_WIDTH]),
+        VmdPlace::At(at) => vmd_bytes::trim_fixed_bytes(
+            &file[at..at + VmdParsedMorphFrame::NAME_WIDTH],
+        ),
     }
 }
 
@@ -324,7 +327,9 @@ pub fn ik_name<'a>(
     let sections = opening.sections;
     match place_of_ik_state(file, sections.properties, scratch, i, j) {
         VmdPlace::Refused(_) => &file[..0],
-        VmdPlace::At(at) => vmd_bytes::trim_fixed_bytes(&file[at..at + IK_NAME_WIDTH]),
+        VmdPlace::At(at) => vmd_bytes::trim_fixed_bytes(
+            &file[at..at + VmdParsedIkState::NAME_WIDTH],
+        ),
     }
 }
 
@@ -336,7 +341,7 @@ pub fn model_name<'a>(file: &'a [u8]) -> &'a [u8]
         HeaderAnswer::Refused(_) => &file[..0],
         HeaderAnswer::Read(start) => {
             let end = start.pos;
-            vmd_bytes::trim_fixed_bytes(&file[30..end])
+            vmd_bytes::trim_fixed_bytes(&file[MAGIC_SIZE..end])
         }
     }
 }
@@ -347,7 +352,8 @@ pub fn bone_interpolation<'a>(file: &'a [u8], opening: VmdOpening, i: usize) -> 
     let sections = opening.sections;
     match place_of(file, sections.bones, VmdParsedBoneFrame::SIZE, i) {
         VmdPlace::Refused(_) => &file[..0],
-        VmdPlace::At(at) => &file[at + 47..at + VmdParsedBoneFrame::SIZE],
+        VmdPlace::At(at) => &file[at + VmdParsedBoneFrame::INTERPOLATION_OFFSET..at
+            + VmdParsedBoneFrame::SIZE],
     }
 }
 
@@ -357,6 +363,7 @@ pub fn camera_interpolation<'a>(file: &'a [u8], opening: VmdOpening, i: usize) -
     let sections = opening.sections;
     match place_of(file, sections.cameras, VmdParsedCameraFrame::SIZE, i) {
         VmdPlace::Refused(_) => &file[..0],
-        VmdPlace::At(at) => &file[at + 32..at + 56],
+        VmdPlace::At(at) => &file[at + VmdParsedCameraFrame::INTERPOLATION_OFFSET..at
+            + VmdParsedCameraFrame::FOV_OFFSET],
     }
 }

@@ -7,6 +7,7 @@ ghost use lib.Ieee.{binary32, ofBits};
 ghost use Rattle.vmd_format.specs.Bytes.{u32};
 ghost use Rattle.vmd_format.specs.Records.{bone, morph, camera, light, self-shadow, ik-state};
 ghost use Rattle.vmd_format.specs.Fetch.{property-at};
+ghost use Rattle.vmd_records.specs.Kinds.{size-of, frame-at};
 ghost use Rattle.vmd_records.specs.Fields.{bone-fields, morph-fields, camera-fields, light-floats, light-bits, self-shadow-fields, property-fields, ik-fields};
 
 // ---- fields
@@ -62,11 +63,17 @@ pub struct VmdParsedBoneFrame {
 impl VmdParsedBoneFrame {
     pub const SIZE: usize = 111;
 
+    pub const NAME_WIDTH: usize = 15;
+
+    pub const FRAME_OFFSET: usize = 15;
+
+    pub const INTERPOLATION_OFFSET: usize = 47;
+
     pub fn from_bytes(bytes: &[u8]) -> VmdParsedBoneFrame
         ensures { λ r. ⌜ r ≡ bone-fields (bone .decode (now (bytes .entry))) ⌝ }
     {
         VmdParsedBoneFrame {
-            frame: number_at(bytes, 15),
+            frame: number_at(bytes, VmdParsedBoneFrame::FRAME_OFFSET),
             translation_x: number_at(bytes, 19),
             translation_y: number_at(bytes, 23),
             translation_z: number_at(bytes, 27),
@@ -86,11 +93,15 @@ pub struct VmdParsedMorphFrame {
 impl VmdParsedMorphFrame {
     pub const SIZE: usize = 23;
 
+    pub const NAME_WIDTH: usize = 15;
+
+    pub const FRAME_OFFSET: usize = 15;
+
     pub fn from_bytes(bytes: &[u8]) -> VmdParsedMorphFrame
         ensures { λ r. ⌜ r ≡ morph-fields (morph .decode (now (bytes .entry))) ⌝ }
     {
         VmdParsedMorphFrame {
-            frame: number_at(bytes, 15),
+            frame: number_at(bytes, VmdParsedMorphFrame::FRAME_OFFSET),
             weight: number_at(bytes, 19),
         }
     }
@@ -112,6 +123,14 @@ pub struct VmdParsedCameraFrame {
 impl VmdParsedCameraFrame {
     pub const SIZE: usize = 61;
 
+    pub const FRAME_OFFSET: usize = 0;
+
+    pub const INTERPOLATION_OFFSET: usize = 32;
+
+    pub const FOV_OFFSET: usize = 56;
+
+    pub const PERSPECTIVE_OFFSET: usize = 60;
+
     pub fn from_bytes(bytes: &[u8]) -> VmdParsedCameraFrame
         ensures { λ r. ⌜ r ≡ camera-fields (camera .decode (now (bytes .entry))) ⌝ }
     {
@@ -124,8 +143,11 @@ impl VmdParsedCameraFrame {
             rotation_x: number_at(bytes, 20),
             rotation_y: number_at(bytes, 24),
             rotation_z: number_at(bytes, 28),
-            fov: number_at(bytes, 56),
-            perspective: vmd_bytes::inverted_of(byte_at(bytes, 60)),
+            fov: number_at(bytes, VmdParsedCameraFrame::FOV_OFFSET),
+            perspective: vmd_bytes::inverted_of(byte_at(
+                bytes,
+                VmdParsedCameraFrame::PERSPECTIVE_OFFSET,
+            )),
         }
     }
 }
@@ -142,6 +164,8 @@ pub struct VmdParsedLightFrame {
 
 impl VmdParsedLightFrame {
     pub const SIZE: usize = 28;
+
+    pub const FRAME_OFFSET: usize = 0;
 
     pub fn from_bytes(bytes: &[u8]) -> VmdParsedLightFrame
         ensures { λ r. ⌜ r ≡ light-floats (light .decode (now (bytes .entry))) ⌝ }
@@ -196,6 +220,8 @@ pub struct VmdParsedSelfShadowFrame {
 impl VmdParsedSelfShadowFrame {
     pub const SIZE: usize = 9;
 
+    pub const FRAME_OFFSET: usize = 0;
+
     pub fn from_bytes(bytes: &[u8]) -> VmdParsedSelfShadowFrame
         ensures { λ r. ⌜ r ≡ self-shadow-fields (self-shadow .decode (now (bytes .entry))) ⌝ }
     {
@@ -217,13 +243,17 @@ pub struct VmdParsedPropertyFrame {
 impl VmdParsedPropertyFrame {
     pub const SIZE: usize = 9;
 
+    pub const VISIBLE_OFFSET: usize = 4;
+
+    pub const IK_COUNT_OFFSET: usize = 5;
+
     pub fn from_bytes(bytes: &[u8]) -> VmdParsedPropertyFrame
         ensures { λ r. ⌜ r ≡ property-fields (property-at (now (bytes .entry)) 0) ⌝ }
     {
         VmdParsedPropertyFrame {
             frame: number_at(bytes, 0),
-            visible: vmd_bytes::flag_of(byte_at(bytes, 4)),
-            ik_count: number_at(bytes, 5),
+            visible: vmd_bytes::flag_of(byte_at(bytes, VmdParsedPropertyFrame::VISIBLE_OFFSET)),
+            ik_count: number_at(bytes, VmdParsedPropertyFrame::IK_COUNT_OFFSET),
         }
     }
 }
@@ -235,11 +265,52 @@ pub struct VmdParsedIkState {
 impl VmdParsedIkState {
     pub const SIZE: usize = 21;
 
+    pub const NAME_WIDTH: usize = 20;
+
+    pub const ENABLED_OFFSET: usize = 20;
+
     pub fn from_bytes(bytes: &[u8]) -> VmdParsedIkState
         ensures { λ r. ⌜ r ≡ ik-fields (ik-state .decode (now (bytes .entry))) ⌝ }
     {
         VmdParsedIkState {
-            enabled: vmd_bytes::flag_of(byte_at(bytes, 20)),
+            enabled: vmd_bytes::flag_of(byte_at(bytes, VmdParsedIkState::ENABLED_OFFSET)),
+        }
+    }
+}
+
+// ---- kinds
+
+// The kinds of records that have one size; property frames, with their IK states, have none.
+pub enum VmdKind {
+    Bone,
+    Morph,
+    Camera,
+    Light,
+    SelfShadow,
+}
+
+impl VmdKind {
+    pub fn size(self) -> usize
+        ensures { λ r. ⌜ r ≡ size-of self ⌝ }
+    {
+        match self {
+            VmdKind::Bone => VmdParsedBoneFrame::SIZE,
+            VmdKind::Morph => VmdParsedMorphFrame::SIZE,
+            VmdKind::Camera => VmdParsedCameraFrame::SIZE,
+            VmdKind::Light => VmdParsedLightFrame::SIZE,
+            VmdKind::SelfShadow => VmdParsedSelfShadowFrame::SIZE,
+        }
+    }
+    // Where a record has its frame.
+    pub fn frame_offset(self) -> usize
+        ensures { λ r. ⌜ r ≡ frame-at self ⌝ }
+    {
+        match self {
+            VmdKind::Bone => VmdParsedBoneFrame::FRAME_OFFSET,
+            VmdKind::Morph => VmdParsedMorphFrame::FRAME_OFFSET,
+            VmdKind::Camera => VmdParsedCameraFrame::FRAME_OFFSET,
+            VmdKind::Light => VmdParsedLightFrame::FRAME_OFFSET,
+            VmdKind::SelfShadow => VmdParsedSelfShadowFrame::FRAME_OFFSET,
         }
     }
 }

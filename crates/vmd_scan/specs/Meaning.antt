@@ -1,20 +1,16 @@
 -- What the types of the code mean in the terms of the format, by cases. Definitions only.
 use Prim.Native.Nat.{ℕ}
-use Rattle.vmd_format.specs.Refusal.{Refusal, file-ends-early, magic-differs, scratch-too-short, outside, parts-not-whole, name-unfit, name-not-good, not-finite, self-shadow-unfit, columns-disagree, count-too-large, name-index-too-large, output-too-short}
+use Rattle.vmd_base.specs.Meaning.{refusal-of, part-is}
 use Rattle.vmd_format.specs.Answer.{Answer, declined, given}
 use Rattle.vmd_format.specs.Read as format
-use Rattle.vmd_format.specs.Opening.{Part, Scan}
+use Rattle.vmd_format.specs.Opening.{Scan}
 use Rattle.vmd_format.specs.Places.{Span, Walk}
 use Rattle.vmd_scan.specs.Stages.{Numbered, Optional, nothing, there, Front, Back}
-use Rattle.vmd_scan.specs.declared.VmdRefusal.{VmdRefusal}
-use Rattle.vmd_scan.specs.declared.VmdRefusal.the-variants.{FileEndsEarly, MagicDiffers, ScratchTooShort, Outside, PartsNotWhole, NameUnfit, NameNotGood, NotFinite, SelfShadowUnfit, ColumnsDisagree, CountTooLarge, NameIndexTooLarge, OutputTooShort}
-use Rattle.vmd_scan.specs.declared.VmdSection.{VmdSection}
 use Rattle.vmd_scan.specs.declared.VmdSections.{VmdSections}
 use Rattle.vmd_scan.specs.declared.Oversized.{Oversized}
 use Rattle.vmd_scan.specs.declared.Oversized.the-variants as oversized
 use Rattle.vmd_scan.specs.declared.BytesOver.{BytesOver}
 use Rattle.vmd_scan.specs.declared.BytesOver.the-variants as over
-use Rattle.vmd_scan.specs.declared.Manner.{Manner}
 use Rattle.vmd_scan.specs.declared.NumberAnswer.{NumberAnswer}
 use Rattle.vmd_scan.specs.declared.NumberAnswer.the-variants as number
 use Rattle.vmd_scan.specs.declared.OptionalNumber.{OptionalNumber}
@@ -33,24 +29,6 @@ use Rattle.vmd_scan.specs.declared.FrontAnswer.{FrontAnswer}
 use Rattle.vmd_scan.specs.declared.FrontAnswer.the-variants as front
 use Rattle.vmd_scan.specs.declared.BackAnswer.{BackAnswer}
 use Rattle.vmd_scan.specs.declared.BackAnswer.the-variants as back
-
-abbrev pub refusal-of : VmdRefusal → Refusal
-refusal-of FileEndsEarly = file-ends-early
-refusal-of MagicDiffers = magic-differs
-refusal-of ScratchTooShort = scratch-too-short
-refusal-of Outside = outside
-refusal-of PartsNotWhole = parts-not-whole
-refusal-of NameUnfit = name-unfit
-refusal-of NameNotGood = name-not-good
-refusal-of NotFinite = not-finite
-refusal-of SelfShadowUnfit = self-shadow-unfit
-refusal-of ColumnsDisagree = columns-disagree
-refusal-of CountTooLarge = count-too-large
-refusal-of NameIndexTooLarge = name-index-too-large
-refusal-of OutputTooShort = output-too-short
-
-abbrev pub part-is : VmdSection → Part
-part-is x = record { count = x .count; place = x .place }
 
 abbrev pub scan-is : VmdSections → Scan
 scan-is x = record {
@@ -72,9 +50,6 @@ oversized-of oversized.Emptied = format.emptied
 abbrev pub over-of : BytesOver → format.BytesOver
 over-of over.Ignored = format.ignored
 over-of (over.Refused k) = format.turned-down (refusal-of k)
-
-abbrev pub manner-of : Manner → format.Manner
-manner-of m = record { oversized = oversized-of (m .oversized); over = over-of (m .over) }
 
 -- ---- answers
 

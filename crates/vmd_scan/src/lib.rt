@@ -1,5 +1,12 @@
 // Finding the sections of a file by places: the cursor, the header, the section counts and the property frames. Internal:
 // callers see to the lengths where a contract asks it.
+use vmd_base::HEADER_SIZE;
+use vmd_base::MAGIC_COMPARED;
+use vmd_base::MAGIC_SIZE;
+use vmd_base::VMD_MAGIC;
+use vmd_base::VmdManner;
+use vmd_base::VmdRefusal;
+use vmd_base::VmdSection;
 use vmd_records::VmdParsedBoneFrame;
 use vmd_records::VmdParsedCameraFrame;
 use vmd_records::VmdParsedIkState;
@@ -12,24 +19,14 @@ ghost use mathlib.Core.List.{_++_};
 ghost use Prim.Native.Nat.{_+_, _*_, _-_, _≤_};
 ghost use lib.Dec.{leb};
 ghost use lib.ListN.{length, drop};
-ghost use Rattle.vmd_format.specs.Refusal.{number};
 ghost use Rattle.vmd_format.specs.Answer.{given};
-ghost use Rattle.vmd_format.specs.Read.{lenient};
 ghost use Rattle.vmd_format.specs.Places.{header-place, no-span, over-span, span, optional-span, walk, over-if, scan-sections, scan-file, part-largest, next-frame, largest-frame-of, frame-places, scan-largest, Reaches};
 ghost use Rattle.vmd_format.specs.ScanLaws.{Inside};
+ghost use Rattle.vmd_base.specs.Meaning.{manner-of, part-is};
 ghost use Rattle.vmd_scan.specs.Stages.{read-number, optional-number, counted-span, scan-front, scan-back, scan-parts, scan-end, back-largest};
-ghost use Rattle.vmd_scan.specs.Meaning.{refusal-of, part-is, oversized-of, over-of, manner-of, scan-is, place-answer, number-answer, optional-answer, span-answer, walk-answer, front-is, back-is, front-answer, back-answer, scan-answer};
+ghost use Rattle.vmd_scan.specs.Meaning.{oversized-of, over-of, scan-is, place-answer, number-answer, optional-answer, span-answer, walk-answer, front-is, back-is, front-answer, back-answer, scan-answer};
 
 // ---- sizes, in bytes
-
-// The magic as it is written, with its five zero bytes.
-pub const MAGIC_SIZE: usize = 30;
-
-// The magic as it is compared, with the first of them.
-const MAGIC_COMPARED: usize = 26;
-
-// The magic and the model name.
-pub const HEADER_SIZE: usize = 50;
 
 const BONE_SIZE: usize = VmdParsedBoneFrame::SIZE;
 
@@ -46,58 +43,7 @@ const PROPERTY_SIZE: usize = VmdParsedPropertyFrame::SIZE;
 
 const IK_STATE_SIZE: usize = VmdParsedIkState::SIZE;
 
-// Where a bone or a morph record has its frame, after its name. Every other record begins with it.
-pub const NAMED_FRAME_OFFSET: usize = 15;
-
-// Where a property frame has the count of its IK states, after its frame and its flag.
-pub const IK_COUNT_OFFSET: usize = 5;
-
 // ---- types
-
-// What is turned down: the table of refusals.
-pub enum VmdRefusal {
-    FileEndsEarly,
-    MagicDiffers,
-    ScratchTooShort,
-    Outside,
-    PartsNotWhole,
-    NameUnfit,
-    NameNotGood,
-    NotFinite,
-    SelfShadowUnfit,
-    ColumnsDisagree,
-    CountTooLarge,
-    NameIndexTooLarge,
-    OutputTooShort,
-}
-
-impl VmdRefusal {
-    pub fn number(self) -> u32
-        ensures { λ r. ⌜ r ≡ number (refusal-of self) ⌝ }
-    {
-        match self {
-            VmdRefusal::FileEndsEarly => 1,
-            VmdRefusal::MagicDiffers => 2,
-            VmdRefusal::ScratchTooShort => 3,
-            VmdRefusal::Outside => 4,
-            VmdRefusal::PartsNotWhole => 5,
-            VmdRefusal::NameUnfit => 6,
-            VmdRefusal::NameNotGood => 7,
-            VmdRefusal::NotFinite => 8,
-            VmdRefusal::SelfShadowUnfit => 9,
-            VmdRefusal::ColumnsDisagree => 10,
-            VmdRefusal::CountTooLarge => 11,
-            VmdRefusal::NameIndexTooLarge => 12,
-            VmdRefusal::OutputTooShort => 13,
-        }
-    }
-}
-
-// How many records a section has, and where the first is.
-pub struct VmdSection {
-    pub count: u32,
-    pub place: usize,
-}
 
 pub struct VmdSections {
     pub bones: VmdSection,
@@ -119,12 +65,6 @@ pub enum Oversized {
 pub enum BytesOver {
     Ignored,
     Refused(VmdRefusal),
-}
-
-// The manner of reading.
-pub struct Manner {
-    pub oversized: Oversized,
-    pub over: BytesOver,
 }
 
 // The position of a reader; the bytes stand beside it.
@@ -188,13 +128,21 @@ enum BackAnswer {
     Found(BackSections),
 }
 
-// The manner of opening: an oversized count empties its section, and bytes after the last property frame are ignored.
-pub fn lenient() -> Manner
-    ensures { λ r. ⌜ manner-of r ≡ lenient ⌝ }
+// ---- the manner of reading
+
+fn oversized_in(manner: VmdManner) -> Oversized
+    ensures { λ r. ⌜ oversized-of r ≡ manner-of manner .oversized ⌝ }
 {
-    Manner {
-        oversized: Oversized::Emptied,
-        over: BytesOver::Ignored,
+    match manner {
+        VmdManner::Lenient => Oversized::Emptied,
+    }
+}
+
+fn over_in(manner: VmdManner) -> BytesOver
+    ensures { λ r. ⌜ over-of r ≡ manner-of manner .over ⌝ }
+{
+    match manner {
+        VmdManner::Lenient => BytesOver::Ignored,
     }
 }
 
@@ -337,8 +285,6 @@ impl ByteReader {
 
 // ---- the header
 
-pub const VMD_MAGIC: [u8; MAGIC_SIZE] = *b"Vocaloid Motion Data 0002\0\0\0\0\0";
-
 // Where the sections begin.
 pub fn read_header(file: &[u8]) -> HeaderAnswer
     ensures { λ r. ⌜ place-answer r ≡ header-place (now (file .entry)) ⌝ }
@@ -369,7 +315,7 @@ pub fn walk_property_frames(file: &[u8], place: usize, n: usize) -> WalkAnswer
         if file.len() - at < PROPERTY_SIZE {
             return WalkAnswer::Refused(VmdRefusal::FileEndsEarly);
         }
-        let count = vmd_bytes::read_u32_le(file, at + IK_COUNT_OFFSET);
+        let count = vmd_bytes::read_u32_le(file, at + VmdParsedPropertyFrame::IK_COUNT_OFFSET);
         let bytes = (count as usize) * IK_STATE_SIZE;
         if file.len() - at - PROPERTY_SIZE < bytes {
             return WalkAnswer::Refused(VmdRefusal::FileEndsEarly);
@@ -389,7 +335,7 @@ pub fn next_property_frame(file: &[u8], at: usize) -> usize
     requires { ⌜ next-frame (now file) at ≤ length (now file) ⌝ }
     ensures { λ r. ⌜ r ≡ next-frame (now (file .entry)) at ⌝ }
 {
-    let count = vmd_bytes::read_u32_le(file, at + IK_COUNT_OFFSET);
+    let count = vmd_bytes::read_u32_le(file, at + VmdParsedPropertyFrame::IK_COUNT_OFFSET);
     at + PROPERTY_SIZE + (count as usize) * IK_STATE_SIZE
 }
 
@@ -555,12 +501,12 @@ fn scan_end(file: &[u8], over: BytesOver, front: FrontSections, back: BackSectio
 }
 
 // The counts and places of all six sections, from the place where they begin.
-pub fn scan_sections(file: &[u8], start: ByteReader, manner: Manner) -> ScanAnswer
+pub fn scan_sections(file: &[u8], start: ByteReader, manner: VmdManner) -> ScanAnswer
     requires { ⌜ start .pos ≤ length (now file) ⌝ }
     ensures { λ r. ⌜ scan-answer r ≡ scan-sections (manner-of manner) (now (file .entry)) (start .pos) ⌝ }
 {
-    let oversized = manner.oversized;
-    let over = manner.over;
+    let oversized = oversized_in(manner);
+    let over = over_in(manner);
     match scan_front(file, start, oversized) {
         FrontAnswer::Refused(k) => ScanAnswer::Refused(k),
         FrontAnswer::Found(front) => match scan_back(file, front.next, oversized) {
@@ -571,7 +517,7 @@ pub fn scan_sections(file: &[u8], start: ByteReader, manner: Manner) -> ScanAnsw
 }
 
 // The counts and places of a whole file.
-pub fn scan_file(file: &[u8], manner: Manner) -> ScanAnswer
+pub fn scan_file(file: &[u8], manner: VmdManner) -> ScanAnswer
     ensures { λ r. ⌜ scan-answer r ≡ scan-file (manner-of manner) (now (file .entry)) ⌝ }
 {
     match read_header(file) {
@@ -597,8 +543,18 @@ pub fn max_frame(file: &[u8], sections: VmdSections) -> u32
     requires { ⌜ Inside (now file) (scan-is sections) ⌝ }
     ensures { λ r. ⌜ r ≡ scan-largest (now (file .entry)) (scan-is sections) ⌝ }
 {
-    let bones = largest_frame(file, sections.bones, BONE_SIZE, NAMED_FRAME_OFFSET);
-    let morphs = largest_frame(file, sections.morphs, MORPH_SIZE, NAMED_FRAME_OFFSET);
+    let bones = largest_frame(
+        file,
+        sections.bones,
+        BONE_SIZE,
+        VmdParsedBoneFrame::FRAME_OFFSET,
+    );
+    let morphs = largest_frame(
+        file,
+        sections.morphs,
+        MORPH_SIZE,
+        VmdParsedMorphFrame::FRAME_OFFSET,
+    );
     let cameras = largest_frame(file, sections.cameras, CAMERA_SIZE, 0);
     let back = max_back_frame(file, sections);
     vmd_bytes::larger(

@@ -14,9 +14,9 @@ use Rattle.vmd_format.specs.Records.{bone, morph, camera, light, self-shadow, i
 use Rattle.vmd_format.specs.RecordLaws.{bone-lawful, morph-lawful, camera-lawful, light-lawful, self-shadow-lawful, ik-state-lawful}
 use Rattle.vmd_bytes.specs.Slices.{splice, part}
 use Rattle.vmd_bytes.proofs.Laws.{splice-nil, splice-append-at}
-use Rattle.vmd_writers.specs.declared.VmdKind.{VmdKind}
-use Rattle.vmd_writers.specs.declared.VmdKind.the-variants as kind
-use Rattle.vmd_writers.specs.Kinds.{layout, size-of}
+use Rattle.vmd_records.specs.declared.VmdKind.{VmdKind}
+use Rattle.vmd_records.specs.declared.VmdKind.the-variants as kind
+use Rattle.vmd_records.specs.Kinds.{layout, size-of}
 use Rattle.vmd_writers.proofs.Rewriting.{Rewrites, bone-rewrites, morph-rewrites, camera-rewrites, light-rewrites, self-shadow-rewrites, ik-state-rewrites}
 
 -- a record is w bytes in a file, and as many when it is written

@@ -1,5 +1,6 @@
 // The exporter's writers: each reads records of a file and writes their canonical bytes, names up to their first zero and
 // then zeros, flags as 0 or 1, everything else as it is. Internal: callers see to the lengths.
+use vmd_records::VmdKind;
 use vmd_records::VmdParsedBoneFrame;
 use vmd_records::VmdParsedCameraFrame;
 use vmd_records::VmdParsedIkState;
@@ -16,7 +17,7 @@ ghost use Rattle.vmd_format.specs.Places.{next-frame, Reaches};
 ghost use Rattle.vmd_format.specs.PlacesLaws.{property-in, frames-in};
 ghost use Rattle.vmd_format.specs.Take.{property};
 ghost use Rattle.vmd_bytes.specs.Slices.{splice, part};
-ghost use Rattle.vmd_writers.specs.Kinds.{layout, size-of};
+ghost use Rattle.vmd_records.specs.Kinds.{layout, size-of};
 
 // The size of each record; of a property frame, without its IK states.
 const BONE_SIZE: usize = VmdParsedBoneFrame::SIZE;
@@ -34,23 +35,23 @@ const IK_STATE_SIZE: usize = VmdParsedIkState::SIZE;
 const PROPERTY_SIZE: usize = VmdParsedPropertyFrame::SIZE;
 
 // The name of a bone or a morph, the same with the byte after it, which is two words, and what a bone has after its name.
-const NAME_SIZE: usize = 15;
+const NAME_SIZE: usize = VmdParsedBoneFrame::NAME_WIDTH;
 
 const NAME_WORDS: usize = 16;
 
 const BONE_REST: usize = BONE_SIZE - NAME_SIZE;
 
 // The name of an IK state.
-const IK_NAME_SIZE: usize = 20;
+const IK_NAME_SIZE: usize = VmdParsedIkState::NAME_WIDTH;
 
 // Where a byte or a count stands in its record.
-const PERSPECTIVE: usize = 60;
+const PERSPECTIVE: usize = VmdParsedCameraFrame::PERSPECTIVE_OFFSET;
 
-const ENABLED: usize = IK_NAME_SIZE;
+const ENABLED: usize = VmdParsedIkState::ENABLED_OFFSET;
 
-const VISIBLE: usize = 4;
+const VISIBLE: usize = VmdParsedPropertyFrame::VISIBLE_OFFSET;
 
-const IK_COUNT: usize = 5;
+const IK_COUNT: usize = VmdParsedPropertyFrame::IK_COUNT_OFFSET;
 
 // ---- bones
 
@@ -172,28 +173,6 @@ pub fn write_self_shadows(src: &[u8], at: usize, out: &mut [u8], to: usize, n: u
 }
 
 // ---- a kind of record as a value: the kinds that have one size
-
-pub enum VmdKind {
-    Bone,
-    Morph,
-    Camera,
-    Light,
-    SelfShadow,
-}
-
-impl VmdKind {
-    pub fn size(self) -> usize
-        ensures { λ r. ⌜ r ≡ size-of self ⌝ }
-    {
-        match self {
-            VmdKind::Bone => BONE_SIZE,
-            VmdKind::Morph => MORPH_SIZE,
-            VmdKind::Camera => CAMERA_SIZE,
-            VmdKind::Light => LIGHT_SIZE,
-            VmdKind::SelfShadow => SELF_SHADOW_SIZE,
-        }
-    }
-}
 
 // n records of a kind. The kind is looked at once, so that each has its own loop.
 pub fn write_records(out: &mut [u8], to: usize, kind: VmdKind, src: &[u8], at: usize, n: usize)

@@ -1,6 +1,6 @@
 -- `vmd_export::write_sections` meets its contract. Assumes nothing.
 use borrow.Author.Needs.{needs}
-use Rattle.vmd_output.specs.Written.{rest-all, rest-room, rest-then, rest-done}
+use Rattle.vmd_bytes.proofs.Writes.{rest-all, rest-room, rest-then, rest-done}
 use Rattle.vmd_export.specs.Together.{sections-bytes}
 use Rattle.vmd_export.proofs.write_sections.Statement.{statement}
 use Rattle.vmd_export.proofs.write_sections.Tie as tie

@@ -1,7 +1,7 @@
 -- `vmd_export::write_take` meets its contract. Assumes nothing.
 use mathlib.Core.Path.{sym, ap, _∙_}
 use borrow.Author.Needs.{needs}
-use Rattle.vmd_output.specs.Written.{rest-room, rest-then, rest-done}
+use Rattle.vmd_bytes.proofs.Writes.{rest-room, rest-then, rest-done}
 use Rattle.vmd_output.specs.Meaning.{written-answer}
 use Rattle.vmd_export.proofs.Laws.{take-over, take-rest, take-wrote}
 use Rattle.vmd_export.proofs.write_take.Statement.{statement}

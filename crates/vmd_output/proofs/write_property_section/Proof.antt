@@ -1,7 +1,7 @@
 -- `vmd_output::write_property_section` meets its contract. Assumes nothing.
 use borrow.Author.Needs.{needs}
 use Rattle.vmd_output.proofs.Laws.{frames-rest}
-use Rattle.vmd_output.specs.Written.{rest-room, rest-then, rest-done}
+use Rattle.vmd_bytes.proofs.Writes.{rest-room, rest-then, rest-done}
 use Rattle.vmd_output.proofs.write_property_section.Statement.{statement}
 use Rattle.vmd_output.proofs.write_property_section.Tie as tie
 

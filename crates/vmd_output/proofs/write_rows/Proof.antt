@@ -4,7 +4,7 @@ use Prim.Native.Nat.{_*_}
 use native.Mathlib.Omega.{arith}
 use borrow.Author.Needs.{needs}
 use denote.Ref.{now}
-use Rattle.vmd_scan.specs.Meaning.{part-is}
+use Rattle.vmd_base.specs.Meaning.{part-is}
 use Rattle.vmd_output.proofs.Laws.{rows-room, rows-wrote}
 use Rattle.vmd_output.proofs.write_rows.Statement.{statement}
 use Rattle.vmd_output.proofs.write_rows.Tie as tie

@@ -1,7 +1,7 @@
 -- `vmd_output::write_section` meets its contract. Assumes nothing.
 use borrow.Author.Needs.{needs}
 use Rattle.vmd_output.proofs.Laws.{section-rest}
-use Rattle.vmd_output.specs.Written.{rest-room, rest-then, rest-done}
+use Rattle.vmd_bytes.proofs.Writes.{rest-room, rest-then, rest-done}
 use Rattle.vmd_output.proofs.write_section.Statement.{statement}
 use Rattle.vmd_output.proofs.write_section.Tie as tie
 

@@ -1,7 +1,7 @@
 -- `vmd_parts::build_vmd_animation_from_parts` meets its contract. Assumes nothing.
 use mathlib.Core.Path.{ap, sym, _∙_}
 use borrow.Author.Needs.{needs}
-use Rattle.vmd_output.specs.Written.{rest-room, rest-then, rest-done}
+use Rattle.vmd_bytes.proofs.Writes.{rest-room, rest-then, rest-done}
 use Rattle.vmd_output.specs.Meaning.{written-answer}
 use Rattle.vmd_names.specs.Meaning.{check-of}
 use Rattle.vmd_parts.proofs.File.{bones-fit, morphs-fit, records-fit, built-refused, built-over, built-rest, built-wrote}

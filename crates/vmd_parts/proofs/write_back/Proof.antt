@@ -1,6 +1,6 @@
 -- `vmd_parts::write_back` meets its contract. Assumes nothing.
 use borrow.Author.Needs.{needs}
-use Rattle.vmd_output.specs.Written.{rest-all, rest-room, rest-then, rest-done}
+use Rattle.vmd_bytes.proofs.Writes.{rest-all, rest-room, rest-then, rest-done}
 use Rattle.vmd_parts.specs.Stages.{back-bytes}
 use Rattle.vmd_parts.proofs.write_back.Statement.{statement}
 use Rattle.vmd_parts.proofs.write_back.Tie as tie

@@ -1,7 +1,7 @@
 -- `vmd_parts::write_front` meets its contract. Assumes nothing.
 use native.Mathlib.Omega.{arith}
 use borrow.Author.Needs.{needs}
-use Rattle.vmd_output.specs.Written.{rest-room, rest-then, rest-done}
+use Rattle.vmd_bytes.proofs.Writes.{rest-room, rest-then, rest-done}
 use Rattle.vmd_parts.proofs.File.{front-rest}
 use Rattle.vmd_parts.proofs.write_front.Statement.{statement}
 use Rattle.vmd_parts.proofs.write_front.Tie as tie

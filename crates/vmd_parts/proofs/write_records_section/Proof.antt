@@ -5,7 +5,7 @@ use native.Mathlib.Omega.{arith}
 use borrow.Author.Needs.{needs}
 use lib.ListN.{length}
 use denote.Ref.{now}
-use Rattle.vmd_output.specs.Written.{rest-room, rest-then, rest-done}
+use Rattle.vmd_bytes.proofs.Writes.{rest-room, rest-then, rest-done}
 use Rattle.vmd_parts.proofs.File.{size-positive, filling-lies, filling-rest}
 use Rattle.vmd_parts.proofs.write_records_section.Statement.{statement}
 use Rattle.vmd_parts.proofs.write_records_section.Tie as tie

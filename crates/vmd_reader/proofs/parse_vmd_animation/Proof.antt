@@ -10,8 +10,8 @@ use Rattle.vmd_reader.proofs.parse_vmd_animation.Statement.{statement}
 use Rattle.vmd_reader.proofs.parse_vmd_animation.Tie as tie
 
 -- the scan that the answer of `scan_file` says
-scanned : (c : tie.After-scan-file) → scan-file lenient (c .before .before .before .before .args .file .now) ≡ scan-answer (c .scan-file .result)
-scanned c = ap (λ m. scan-file m (c .before .before .before .before .args .file .now)) (sym (c .before .lenient .ensures)) ∙ sym (c .scan-file .ensures)
+scanned : (c : tie.After-scan-file) → scan-file lenient (c .before .before .before .args .file .now) ≡ scan-answer (c .scan-file .result)
+scanned c = sym (c .scan-file .ensures)
 
 open-sections-requires : tie.Need-open-sections-requires
 open-sections-requires c κs =
@@ -34,4 +34,4 @@ returns-2 c =
 pub parse-vmd-animation-spec : {M : Type 1} → statement M
 parse-vmd-animation-spec =
     tie.close
-    (tie.spec (λ c κs. search needs) (λ c κs. search needs) (λ c. search needs) (λ c. search needs) open-sections-requires returns (λ c. search needs) returns-2)
+    (tie.spec (λ c κs. search needs) (λ c. search needs) (λ c. search needs) open-sections-requires returns (λ c. search needs) returns-2)

@@ -2,8 +2,8 @@
 use Prim.Native.Nat.{ℕ}
 use Rattle.vmd_format.specs.Layout.{Layout}
 use Rattle.vmd_format.specs.Records.{Bone, Morph, Camera, Light, SelfShadow, bone, morph, camera, light, self-shadow}
-use Rattle.vmd_writers.specs.declared.VmdKind.{VmdKind}
-use Rattle.vmd_writers.specs.declared.VmdKind.the-variants as kind
+use Rattle.vmd_records.specs.declared.VmdKind.{VmdKind}
+use Rattle.vmd_records.specs.declared.VmdKind.the-variants as kind
 
 abbrev pub Row : VmdKind → Type 0
 Row kind.Bone = Bone
@@ -25,3 +25,11 @@ size-of kind.Morph = 23
 size-of kind.Camera = 61
 size-of kind.Light = 28
 size-of kind.SelfShadow = 9
+
+-- where the frame stands in a record
+abbrev pub frame-at : VmdKind → ℕ
+frame-at kind.Bone = 15
+frame-at kind.Morph = 15
+frame-at kind.Camera = 0
+frame-at kind.Light = 0
+frame-at kind.SelfShadow = 0

@@ -1,0 +1,73 @@
+// What every other crate names: the refusals, the magic and its sizes, the manner of reading, and a section of a file.
+ghost use mathlib.Core.Path.{_≡_};
+ghost use Rattle.vmd_format.specs.Refusal.{number};
+ghost use Rattle.vmd_base.specs.Meaning.{refusal-of};
+
+// ---- sizes, in bytes
+
+// The magic as it is written, with its five zero bytes.
+pub const MAGIC_SIZE: usize = 30;
+
+// The magic as it is compared, with the first of them.
+pub const MAGIC_COMPARED: usize = 26;
+
+// The field of the model name, after the magic.
+pub const MODEL_WIDTH: usize = 20;
+
+// The magic and the model name.
+pub const HEADER_SIZE: usize = MAGIC_SIZE + MODEL_WIDTH;
+
+pub const VMD_MAGIC: [u8; MAGIC_SIZE] = *b"Vocaloid Motion Data 0002\0\0\0\0\0";
+
+// ---- types
+
+// What is turned down: the table of refusals.
+pub enum VmdRefusal {
+    FileEndsEarly,
+    MagicDiffers,
+    ScratchTooShort,
+    Outside,
+    PartsNotWhole,
+    NameUnfit,
+    NameNotGood,
+    NotFinite,
+    SelfShadowUnfit,
+    ColumnsDisagree,
+    CountTooLarge,
+    NameIndexTooLarge,
+    OutputTooShort,
+}
+
+impl VmdRefusal {
+    pub fn number(self) -> u32
+        ensures { λ r. ⌜ r ≡ number (refusal-of self) ⌝ }
+    {
+        match self {
+            VmdRefusal::FileEndsEarly => 1,
+            VmdRefusal::MagicDiffers => 2,
+            VmdRefusal::ScratchTooShort => 3,
+            VmdRefusal::Outside => 4,
+            VmdRefusal::PartsNotWhole => 5,
+            VmdRefusal::NameUnfit => 6,
+            VmdRefusal::NameNotGood => 7,
+            VmdRefusal::NotFinite => 8,
+            VmdRefusal::SelfShadowUnfit => 9,
+            VmdRefusal::ColumnsDisagree => 10,
+            VmdRefusal::CountTooLarge => 11,
+            VmdRefusal::NameIndexTooLarge => 12,
+            VmdRefusal::OutputTooShort => 13,
+        }
+    }
+}
+
+// The manner of reading a whole take. Lenient: an oversized camera, light or self-shadow count empties its section, and bytes
+// after the last property frame are ignored.
+pub enum VmdManner {
+    Lenient,
+}
+
+// How many records a section has, and where the first is.
+pub struct VmdSection {
+    pub count: u32,
+    pub place: usize,
+}
