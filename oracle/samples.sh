@@ -1,5 +1,5 @@
 #!/usr/bin/env bash
-# Writes the sample of the original's answers anew: the cases that crates/vmd_replay reads, and the examples of
+# Writes the sample of the original's answers anew: the cases that tests/c/replay.c reads, and the examples of
 # crates/vmd_answers. The same sources give the same files.
 #
 #   oracle/samples.sh [SOURCES]
@@ -9,5 +9,4 @@ set -euo pipefail
 root=$(cd "$(dirname "$0")/.." && pwd)
 "$root/oracle/build.sh" samples "$@"
 cd "$root"
-mkdir -p crates/vmd_replay
-target/oracle/build/release/samples crates/vmd_replay/stdin crates/vmd_answers
+target/oracle/build/release/samples tests/c/replay.cases crates/vmd_answers

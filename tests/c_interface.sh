@@ -1,6 +1,7 @@
 #!/usr/bin/env bash
 # Builds the static library, and the C programs of tests/c over it and include/vmd.h; each checks what the calls answer and
-# every byte they leave. Run it from the repository's root. VMD_LIB names a library that is built already.
+# every byte they leave. replay.c reads the original's recorded answers, tests/c/replay.cases, on its standard input. Run it
+# from the repository's root. VMD_LIB names a library that is built already.
 set -euo pipefail
 
 fail() { printf 'c_interface: %s\n' "$*" >&2; exit 1; }
@@ -31,7 +32,9 @@ summary=
 for source in tests/c/*.c; do
     name=$(basename "$source" .c)
     cc -std=c99 -O1 "${warnings[@]}" "$source" "$library" -o "$work/$name" || fail "$source is not compiled"
-    line=$("$work/$name") || fail "$source failed"
+    input=tests/c/$name.cases
+    [ -f "$input" ] || input=/dev/null
+    line=$("$work/$name" < "$input") || fail "$source failed"
     summary+="${summary:+, }$line"
 done
 

@@ -5,6 +5,7 @@
  * 11, which needs 4,294,967,296 records of a kind; the smallest such section has 36 GiB.
  */
 #include "check.h"
+#include "parts.h"
 #include "readback.h"
 #include "vmd.h"
 
@@ -69,14 +70,7 @@ static void append_bytes(struct records *r, const void *from, size_t n)
 
 /* ---- one call: the parts are lent one by one, none of them changes, and the output and the slot are looked at */
 
-enum { SLICES = 17 };
-
-static struct fence lent[SLICES], lent_out, lent_slot;
-
-struct slice {
-    const void *at;
-    size_t len, size;
-};
+static struct fence lent_out, lent_slot;
 
 /* A name table as it is lent: bytes and ends. */
 struct laid_table {
@@ -99,26 +93,6 @@ static void lay(const struct name_table *t, struct laid_table *l)
     case BEFORE_THE_BYTES_END: l->ends.at[t->n - 1] -= 1; break;
     case NONE: l->ends.len = 0; break;
     }
-}
-
-#define BYTES(k) (const uint8_t *)p[k], s[k].len
-#define NUMBERS(k) (const uint32_t *)p[k], s[k].len
-#define FLOATS(k) (const float *)p[k], s[k].len
-#define PARTS                                                                                                               \
-    BYTES(0), BYTES(1), NUMBERS(2), BYTES(3), NUMBERS(4), BYTES(5), BYTES(6), BYTES(7), BYTES(8), NUMBERS(9), NUMBERS(10),  \
-        FLOATS(11), FLOATS(12), BYTES(13), NUMBERS(14), NUMBERS(15), FLOATS(16)
-
-static uint32_t call_with(const struct slice s[SLICES], uint8_t *out, size_t out_len, int size_only, uint64_t *slot)
-{
-    const void *p[SLICES];
-    uint32_t number;
-    int k;
-    for (k = 0; k < SLICES; k++)
-        p[k] = lend(&lent[k], s[k].at, s[k].len * s[k].size);
-    number = size_only ? vmd_build_size(PARTS, slot) : vmd_build_animation_from_parts(PARTS, out, out_len, slot);
-    for (k = 0; k < SLICES; k++)
-        expect_lent("a part", &lent[k], s[k].at, s[k].len * s[k].size);
-    return number;
 }
 
 /* The parts as they are lent; the name tables are laid out in tables. */
@@ -153,7 +127,7 @@ static uint32_t call(const struct parts *parts, uint8_t *out, size_t out_len, in
     struct laid_table tables[2];
     struct slice s[SLICES];
     slices_of(parts, tables, s);
-    return call_with(s, out, out_len, size_only, slot);
+    return build_with(s, out, out_len, size_only, slot);
 }
 
 static void size_of(const struct parts *parts, uint32_t number, uint64_t size)
@@ -443,9 +417,9 @@ static void built_from_many(void)
     encode_times(&expected, &t, TIMES, CANONICAL);
     trial("a good set of parts, %d times over", TIMES);
     out = lend_unwritten(&lent_out, expected.len);
-    expect_built(call_with(s, out, expected.len, 0, lend_unwritten(&lent_slot, 8)), &expected);
+    expect_built(build_with(s, out, expected.len, 0, lend_unwritten(&lent_slot, 8)), &expected);
     out = lend_unwritten(&lent_out, expected.len - 1);
-    expect_number("build", call_with(s, out, expected.len - 1, 0, lend_unwritten(&lent_slot, 8)), VMD_OUTPUT_TOO_SHORT);
+    expect_number("build", build_with(s, out, expected.len - 1, 0, lend_unwritten(&lent_slot, 8)), VMD_OUTPUT_TOO_SHORT);
     expect_lent_unwritten("output", &lent_out);
 }
 
