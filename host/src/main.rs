@@ -1,29 +1,34 @@
 //! The command `vmd`: lists, saves and joins takes.
 #![forbid(unsafe_code)]
 
+mod words;
+
 use std::env;
 use std::ffi::{OsStr, OsString};
 use std::fmt;
 use std::fs::File;
 use std::io::{self, ErrorKind, Read, Write};
-use std::path::Path;
 use std::process::ExitCode;
 
-use vmd::{Error, Refusal, Take};
+use vmd::{Error, Refusal, Take, shown};
+use words::Words;
 
 const HELP: &str = "\
 vmd: VMD takes (MikuMikuDance motion files)
 
-  vmd list FILE..              a line for each take: bones, morphs, cameras, lights, self-shadows, properties, IK states,
-                               largest frame, export length; or 'refused' and the number of the refusal. With several
-                               files each line has the file's name and ': ' before it
-  vmd export IN OUT            saves a take in canonical form
-  vmd join FIRST SECOND.. OUT  joins takes from left to right: in every section the records of each, one after another
+  vmd list FILE..                 a line for each take: bones, morphs, cameras, lights, self-shadows, properties, IK states,
+                                  largest frame, export length; or 'refused' and the number of the refusal. With several
+                                  files each line has the file's name and ': ' before it
+  vmd export IN -o OUT            saves a take in canonical form
+  vmd join FIRST SECOND.. -o OUT  joins takes from left to right: in every section the records of each, one after another
   vmd --help, vmd --version
 
-IN, FIRST, SECOND and FILE may be '-' for standard input, one of them at most, and OUT for standard output. A file whose
-name begins with '-' is written ./-NAME. OUT may be one of the takes that are read, and a link: then the file it leads to is
-replaced. OUT is replaced whole or, where anything fails, not at all.
+IN, FIRST, SECOND and FILE may be '-' for standard input, one of them at most, and OUT for standard output. No file follows
+-o OUT, unless after '--': there every word is a file, one that begins with '-' too, as in 'vmd join -o OUT -- FIRST
+SECOND..'. In a name that is shown, control characters and '\\' are written as in a string of C or Rust.
+
+OUT may be one of the takes that are read, and a link: then the file it leads to is replaced. OUT is replaced whole or, where
+anything fails, not at all.
 
 Exit status: 0; 1 where a take is refused; 2 for bad usage, or where a file cannot be read or written.
 ";
@@ -47,8 +52,16 @@ impl Failure {
 
     fn of(name: &OsStr, error: Error) -> Self {
         match error {
-            Error::Refused(refusal) => Failure::Refused(shown(name), refusal),
-            Error::NoMemory(_) => Failure::Io(format!("{}: {error}", shown(name))),
+            Error::Refused(refusal) => Failure::Refused(shown_input(name), refusal),
+            Error::NoMemory(_) => Failure::Io(format!("{}: {error}", shown_input(name))),
+        }
+    }
+
+    /// With the command's name before what is wrong with its words.
+    fn in_command(self, command: &OsStr) -> Self {
+        match self {
+            Failure::Usage(text) => Failure::Usage(format!("{}: {text}", shown(command))),
+            other => other,
         }
     }
 
@@ -58,6 +71,13 @@ impl Failure {
             Failure::Refused(_, refusal) => Some(format!("refused {}", refusal.number())),
             _ => None,
         }
+    }
+}
+
+/// What is wrong with a command's words.
+impl From<String> for Failure {
+    fn from(wrong: String) -> Self {
+        Failure::Usage(wrong)
     }
 }
 
@@ -89,29 +109,28 @@ fn run(words: &[OsString]) -> Result<u8, Failure> {
     let Some((command, words)) = words.split_first() else {
         return Err(Failure::Usage("no command is given".into()));
     };
-    match command.to_str() {
-        Some("--help" | "-h" | "help") => print(HELP),
-        Some("--version") => print(concat!("vmd ", env!("CARGO_PKG_VERSION"), "\n")),
-        Some("list") => list(files(words)?),
-        Some("export") => export(files(words)?),
-        Some("join") => join(files(words)?),
-        _ => Err(Failure::Usage(format!("there is no command '{}'", command.display()))),
+    let run = match command.to_str() {
+        Some("--help" | "-h" | "help") => return print(HELP),
+        Some("--version") => return print(concat!("vmd ", env!("CARGO_PKG_VERSION"), "\n")),
+        Some("list") => list,
+        Some("export") => export,
+        Some("join") => join,
+        _ => return Err(Failure::Usage(format!("there is no command '{}'", shown(command)))),
+    };
+    match Words::of(words) {
+        Ok(Some(words)) => run(&words),
+        Ok(None) => print(HELP),
+        Err(wrong) => Err(wrong.into()),
     }
+    .map_err(|failure| failure.in_command(command))
 }
 
-/// The words of a command, which are all files.
-fn files(words: &[OsString]) -> Result<&[OsString], Failure> {
-    match words.iter().find(|word| word.as_encoded_bytes().starts_with(b"-") && *word != "-") {
-        Some(option) => Err(Failure::Usage(format!("there is no option '{}'", option.display()))),
-        None => Ok(words),
-    }
-}
-
-fn list(names: &[OsString]) -> Result<u8, Failure> {
+fn list(words: &Words) -> Result<u8, Failure> {
+    words.no_output()?;
+    let names = &words.files[..];
     if names.is_empty() {
-        return Err(Failure::Usage("list: no file is given".into()));
+        return Err(Failure::Usage("no file is given".into()));
     }
-    standard_input_once(names)?;
     let mut status = 0;
     for name in names {
         let (line, failure) = match read(name).and_then(|file| line(&file).map_err(|error| Failure::of(name, error))) {
@@ -121,7 +140,7 @@ fn list(names: &[OsString]) -> Result<u8, Failure> {
         if let Some(line) = line {
             match names {
                 [_] => print(&format!("{line}\n"))?,
-                _ => print(&format!("{}: {line}\n", shown(name)))?,
+                _ => print(&format!("{}: {line}\n", shown_input(name)))?,
             };
         }
         if let Some(failure) = failure {
@@ -148,22 +167,22 @@ fn line(file: &[u8]) -> Result<String, Error> {
     ))
 }
 
-fn export(names: &[OsString]) -> Result<u8, Failure> {
-    let [from, to] = names else {
-        return Err(Failure::Usage("export: two files are needed, IN and OUT".into()));
+fn export(words: &Words) -> Result<u8, Failure> {
+    let to = words.output()?;
+    let [from] = words.files[..] else {
+        return Err(Failure::Usage("one file is needed, IN".into()));
     };
     let saved = vmd::export(&read(from)?).map_err(|error| Failure::of(from, error))?;
     write(to, &saved)
 }
 
-fn join(names: &[OsString]) -> Result<u8, Failure> {
-    let [first, _, .., to] = names else {
-        return Err(Failure::Usage("join: at least three files are needed, FIRST, SECOND and OUT".into()));
+fn join(words: &Words) -> Result<u8, Failure> {
+    let to = words.output()?;
+    let [first, _, ..] = words.files[..] else {
+        return Err(Failure::Usage("two files at least are needed, FIRST and SECOND".into()));
     };
-    let takes = &names[..names.len() - 1];
-    standard_input_once(takes)?;
     let mut joined = read_accepted(first)?;
-    for name in &takes[1..] {
+    for name in &words.files[1..] {
         joined = vmd::join(&joined, &read_accepted(name)?).map_err(|error| Failure::of(name, error))?;
     }
     write(to, &joined)
@@ -171,15 +190,8 @@ fn join(names: &[OsString]) -> Result<u8, Failure> {
 
 // ---- files
 
-fn standard_input_once(names: &[OsString]) -> Result<(), Failure> {
-    match names.iter().filter(|name| *name == "-").count() {
-        0 | 1 => Ok(()),
-        _ => Err(Failure::Usage("standard input can be read once only".into())),
-    }
-}
-
-fn shown(name: &OsStr) -> String {
-    if name == "-" { "standard input".into() } else { name.display().to_string() }
+fn shown_input(name: &OsStr) -> String {
+    if name == "-" { "standard input".into() } else { shown(name) }
 }
 
 /// A whole file. Memory for one whose length is known is asked for at once.
@@ -201,9 +213,9 @@ fn read(name: &OsStr) -> Result<Vec<u8>, Failure> {
     match done {
         Ok(_) => Ok(bytes),
         Err(error) if error.kind() == ErrorKind::OutOfMemory => {
-            Err(Failure::Io(format!("{}: there is no memory to read it", shown(name))))
+            Err(Failure::Io(format!("{}: there is no memory to read it", shown_input(name))))
         }
-        Err(error) => Err(Failure::Io(format!("{}: cannot read the file: {error}", shown(name)))),
+        Err(error) => Err(Failure::Io(format!("{}: cannot read the file: {error}", shown_input(name)))),
     }
 }
 
@@ -230,6 +242,6 @@ fn write(name: &OsStr, bytes: &[u8]) -> Result<u8, Failure> {
     if name == "-" {
         return to_standard_output(bytes);
     }
-    vmd::save(Path::new(name), bytes).map_err(|error| Failure::Io(error.to_string()))?;
+    vmd::save(name.as_ref(), bytes).map_err(|error| Failure::Io(error.to_string()))?;
     Ok(0)
 }

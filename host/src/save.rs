@@ -5,6 +5,8 @@ use std::os::unix::fs::{MetadataExt, OpenOptionsExt, fchown};
 use std::path::{Path, PathBuf};
 use std::{error, fmt};
 
+use crate::shown::shown;
+
 /// What could not be done, with which file, and why.
 #[derive(Debug)]
 pub struct SaveError {
@@ -15,7 +17,7 @@ pub struct SaveError {
 
 impl fmt::Display for SaveError {
     fn fmt(&self, f: &mut fmt::Formatter<'_>) -> fmt::Result {
-        write!(f, "{}: cannot {}: {}", self.path.display(), self.doing, self.cause)
+        write!(f, "{}: cannot {}: {}", shown(&self.path), self.doing, self.cause)
     }
 }
 

@@ -41,7 +41,13 @@ impl Saving {
     }
 
     fn words<'c>(&self, command: &'c mut Command) -> &'c mut Command {
-        command.arg("export").args([self.folder.join("new"), self.take()]).stdout(Stdio::null()).stderr(Stdio::piped())
+        command
+            .arg("export")
+            .arg(self.folder.join("new"))
+            .arg("-o")
+            .arg(self.take())
+            .stdout(Stdio::null())
+            .stderr(Stdio::piped())
     }
 
     /// How long a whole save takes.
@@ -233,7 +239,7 @@ fn no_room_on_the_disk() {
     let script = r#"
         mkdir "$1/disk" && mount -t tmpfs -o size=1500k tmpfs "$1/disk" || exit 99
         cp "$1/take" "$1/disk/take" || exit 98
-        "$2" export "$1/new" "$1/disk/take"
+        "$2" export "$1/new" -o "$1/disk/take"
         echo "$?" > "$1/status"
         ls -A "$1/disk" > "$1/names"
         cp "$1/disk/take" "$1/take"
@@ -412,10 +418,11 @@ fn saves_at_the_same_time() {
             let (saving, takes) = (&saving, &takes);
             scope.spawn(move || {
                 for round in 0..6 {
-                    let done = vmd().arg("export").args([&takes[(n + round) % 4], &saving.take()]).output().unwrap();
+                    let done =
+                        vmd().arg("export").arg(&takes[(n + round) % 4]).arg("-o").arg(saving.take()).output().unwrap();
                     assert_eq!((status(&done), err(&done)), (0, String::new()));
                     let own = saving.folder.join(&format!("own-{n}"));
-                    let done = vmd().arg("export").args([&takes[n % 4], &own]).output().unwrap();
+                    let done = vmd().arg("export").arg(&takes[n % 4]).arg("-o").arg(&own).output().unwrap();
                     assert_eq!((status(&done), err(&done)), (0, String::new()));
                 }
             });
@@ -432,6 +439,6 @@ fn saves_at_the_same_time() {
 fn long_names() {
     let saving = Saving::of("long", 10);
     let to = saving.folder.join(&"n".repeat(255));
-    assert_eq!(status(&vmd().arg("export").arg(saving.folder.join("new")).arg(&to).output().unwrap()), 0);
+    assert_eq!(status(&vmd().arg("export").arg(saving.folder.join("new")).arg("-o").arg(&to).output().unwrap()), 0);
     assert!(fs::read(&to).unwrap() == saving.new);
 }
