@@ -8,9 +8,10 @@ use std::ffi::{OsStr, OsString};
 use std::fmt;
 use std::fs::File;
 use std::io::{self, ErrorKind, Read, Write};
+use std::os::fd::AsFd;
 use std::process::ExitCode;
 
-use vmd::{Error, Refusal, Take, shown};
+use vmd::{Error, FileId, Refusal, Take, shown};
 use words::Words;
 
 const HELP: &str = "\
@@ -39,6 +40,8 @@ enum Failure {
     Refused(String, Refusal),
     /// A file that cannot be read or written, or too little memory.
     Io(String),
+    /// The output is the new file, and its folder could not be flushed.
+    Unflushed(String),
     Usage(String),
 }
 
@@ -47,6 +50,7 @@ impl Failure {
         match self {
             Failure::Refused(..) => 1,
             Failure::Io(_) | Failure::Usage(_) => 2,
+            Failure::Unflushed(_) => 3,
         }
     }
 
@@ -85,7 +89,7 @@ impl fmt::Display for Failure {
     fn fmt(&self, f: &mut fmt::Formatter<'_>) -> fmt::Result {
         match self {
             Failure::Refused(name, refusal) => write!(f, "{name}: {}", Error::Refused(*refusal)),
-            Failure::Io(text) => f.write_str(text),
+            Failure::Io(text) | Failure::Unflushed(text) => f.write_str(text),
             Failure::Usage(text) => write!(f, "{text}; 'vmd --help' tells more"),
         }
     }
@@ -133,10 +137,11 @@ fn list(words: &Words) -> Result<u8, Failure> {
     }
     let mut status = 0;
     for name in names {
-        let (line, failure) = match read(name).and_then(|file| line(&file).map_err(|error| Failure::of(name, error))) {
-            Ok(line) => (Some(line), None),
-            Err(failure) => (failure.line(), Some(failure)),
-        };
+        let (line, failure) =
+            match Sources::default().read(name).and_then(|file| line(&file).map_err(|error| Failure::of(name, error))) {
+                Ok(line) => (Some(line), None),
+                Err(failure) => (failure.line(), Some(failure)),
+            };
         if let Some(line) = line {
             match names {
                 [_] => print(&format!("{line}\n"))?,
@@ -172,8 +177,9 @@ fn export(words: &Words) -> Result<u8, Failure> {
     let [from] = words.files[..] else {
         return Err(Failure::Usage("one file is needed, IN".into()));
     };
-    let saved = vmd::export(&read(from)?).map_err(|error| Failure::of(from, error))?;
-    write(to, &saved)
+    let mut sources = Sources::default();
+    let saved = vmd::export(&sources.read(from)?).map_err(|error| Failure::of(from, error))?;
+    sources.write(to, &saved)
 }
 
 fn join(words: &Words) -> Result<u8, Failure> {
@@ -181,11 +187,12 @@ fn join(words: &Words) -> Result<u8, Failure> {
     let [first, _, ..] = words.files[..] else {
         return Err(Failure::Usage("two files at least are needed, FIRST and SECOND".into()));
     };
-    let mut joined = read_accepted(first)?;
+    let mut sources = Sources::default();
+    let mut joined = sources.read_accepted(first)?;
     for name in &words.files[1..] {
-        joined = vmd::join(&joined, &read_accepted(name)?).map_err(|error| Failure::of(name, error))?;
+        joined = vmd::join(&joined, &sources.read_accepted(name)?).map_err(|error| Failure::of(name, error))?;
     }
-    write(to, &joined)
+    sources.write(to, &joined)
 }
 
 // ---- files
@@ -194,36 +201,57 @@ fn shown_input(name: &OsStr) -> String {
     if name == "-" { "standard input".into() } else { shown(name) }
 }
 
-/// A whole file. Memory for one whose length is known is asked for at once.
-fn read(name: &OsStr) -> Result<Vec<u8>, Failure> {
-    let mut bytes = Vec::new();
-    let done = if name == "-" {
-        io::stdin().lock().read_to_end(&mut bytes)
-    } else {
-        File::open(name).and_then(|mut file| {
-            let found = file.metadata()?;
-            if found.is_dir() {
-                return Err(io::Error::other("it is a folder"));
-            }
-            let len = usize::try_from(found.len()).map_err(|_| ErrorKind::OutOfMemory)?;
-            bytes.try_reserve_exact(len).map_err(|_| ErrorKind::OutOfMemory)?;
-            file.read_to_end(&mut bytes)
-        })
-    };
-    match done {
-        Ok(_) => Ok(bytes),
-        Err(error) if error.kind() == ErrorKind::OutOfMemory => {
-            Err(Failure::Io(format!("{}: there is no memory to read it", shown_input(name))))
-        }
-        Err(error) => Err(Failure::Io(format!("{}: cannot read the file: {error}", shown_input(name)))),
-    }
+/// The files that were read, none of which is removed when another is written.
+#[derive(Default)]
+struct Sources {
+    files: Vec<FileId>,
+    /// Something was read that is no file, as a pipe: what came through it may have been any file.
+    unknown: bool,
 }
 
-/// A file that is accepted, so that a refusal names the file it is of.
-fn read_accepted(name: &OsStr) -> Result<Vec<u8>, Failure> {
-    let file = read(name)?;
-    vmd::export_size(&file).map_err(|refusal| Failure::of(name, refusal.into()))?;
-    Ok(file)
+impl Sources {
+    fn read(&mut self, name: &OsStr) -> Result<Vec<u8>, Failure> {
+        let said = |text| Failure::Io(format!("{}: {text}", shown_input(name)));
+        self.read_whole(name).map_err(|error| match error.kind() {
+            ErrorKind::OutOfMemory => said("there is no memory to read it".into()),
+            _ => said(format!("cannot read the file: {error}")),
+        })
+    }
+
+    /// Memory for a file whose length is known is asked for at once.
+    fn read_whole(&mut self, name: &OsStr) -> io::Result<Vec<u8>> {
+        let mut file = if name == "-" { io::stdin().as_fd().try_clone_to_owned()?.into() } else { File::open(name)? };
+        let found = file.metadata()?;
+        if found.is_dir() {
+            return Err(io::Error::other("it is a folder"));
+        }
+        self.files.push(FileId::of(&found));
+        self.unknown |= !found.is_file();
+        let mut bytes = Vec::new();
+        let len = usize::try_from(found.len()).map_err(|_| ErrorKind::OutOfMemory)?;
+        bytes.try_reserve_exact(len).map_err(|_| ErrorKind::OutOfMemory)?;
+        file.read_to_end(&mut bytes)?;
+        Ok(bytes)
+    }
+
+    /// A file that is accepted, so that a refusal names the file it is of.
+    fn read_accepted(&mut self, name: &OsStr) -> Result<Vec<u8>, Failure> {
+        let file = self.read(name)?;
+        vmd::export_size(&file).map_err(|refusal| Failure::of(name, refusal.into()))?;
+        Ok(file)
+    }
+
+    fn write(&self, name: &OsStr, bytes: &[u8]) -> Result<u8, Failure> {
+        if name == "-" {
+            return to_standard_output(bytes);
+        }
+        let saved = if self.unknown { vmd::save(name, bytes) } else { vmd::save_and_clear(name, bytes, &self.files) };
+        match saved {
+            Ok(()) => Ok(0),
+            Err(error) if error.replaced() => Err(Failure::Unflushed(error.to_string())),
+            Err(error) => Err(Failure::Io(error.to_string())),
+        }
+    }
 }
 
 fn print(text: &str) -> Result<u8, Failure> {
@@ -235,13 +263,5 @@ fn to_standard_output(bytes: &[u8]) -> Result<u8, Failure> {
     out.write_all(bytes)
         .and_then(|()| out.flush())
         .map_err(|error| Failure::Io(format!("cannot write to standard output: {error}")))?;
-    Ok(0)
-}
-
-fn write(name: &OsStr, bytes: &[u8]) -> Result<u8, Failure> {
-    if name == "-" {
-        return to_standard_output(bytes);
-    }
-    vmd::save(name.as_ref(), bytes).map_err(|error| Failure::Io(error.to_string()))?;
     Ok(0)
 }

@@ -1,4 +1,5 @@
 //! Saving a file in the place of another.
+use std::ffi::OsStr;
 use std::fs::{self, File, Metadata, OpenOptions, TryLockError};
 use std::io::{self, ErrorKind, Read, Seek, Write};
 use std::os::unix::fs::{MetadataExt, OpenOptionsExt, fchown};
@@ -13,6 +14,15 @@ pub struct SaveError {
     doing: &'static str,
     path: PathBuf,
     cause: io::Error,
+    replaced: bool,
+}
+
+impl SaveError {
+    /// Whether the target is the new file, whole, and only its folder could not be flushed: where the machine stops before
+    /// the system has done that by itself, the old file may be back. After any other error the target is as it was.
+    pub fn replaced(&self) -> bool {
+        self.replaced
+    }
 }
 
 impl fmt::Display for SaveError {
@@ -34,7 +44,21 @@ trait While<T> {
 
 impl<T> While<T> for io::Result<T> {
     fn doing(self, doing: &'static str, path: &Path) -> Result<T, SaveError> {
-        self.map_err(|cause| SaveError { doing, path: path.to_owned(), cause })
+        self.map_err(|cause| SaveError { doing, path: path.to_owned(), cause, replaced: false })
+    }
+}
+
+/// Which file it is, whatever names it has.
+#[derive(Clone, Copy, Debug, PartialEq, Eq)]
+pub struct FileId {
+    device: u64,
+    number: u64,
+}
+
+impl FileId {
+    /// The file that this is known of.
+    pub fn of(found: &Metadata) -> Self {
+        FileId { device: found.dev(), number: found.ino() }
     }
 }
 
@@ -43,37 +67,55 @@ impl<T> While<T> for io::Result<T> {
 /// They are written to a new file in the target's folder, flushed to the disk, read back and compared; only then does the
 /// new file take the target's name, in one step, and the folder is flushed. Where anything fails the target is as it was;
 /// where the process is ended, at any point, it is the old file or the new one. Where the flush of the folder fails, the new
-/// file has the name already; that is the one error after which the target is the new file.
+/// file has the name already; that is the one error after which the target is the new file ([`SaveError::replaced`]).
 ///
 /// The target keeps its mode, and its owner and group where the system lets the caller set them. A target that the caller
 /// may not write to is not replaced. A symbolic link is followed: the file that it leads to is replaced, and the link stays.
 /// Other hard links to the old file keep its old contents.
 ///
-/// The new file is named `.vmd-save-0.tmp`, or with the next number that no running save has; it is locked while it is
-/// written. One that is not locked was left by a process that was ended, and the next save in the folder removes it.
-pub fn save(path: &Path, bytes: &[u8]) -> Result<(), SaveError> {
+/// The new file is named `.vmd-save-0.tmp`, or with the next number that is free; it is locked while it is written. One that
+/// is not locked was left by a process that was ended. It stays there, since the caller may have read it:
+/// [`save_and_clear`] removes it.
+pub fn save(path: impl AsRef<Path>, bytes: &[u8]) -> Result<(), SaveError> {
+    replace(path.as_ref(), bytes).map(drop)
+}
+
+/// Saves as [`save`] does, and once that is done removes what saves that were ended have left in the target's folder: files
+/// named `.vmd-save-N.tmp` that are not locked. Neither the target is removed nor a file that the caller has read: it names
+/// all of those.
+pub fn save_and_clear(path: impl AsRef<Path>, bytes: &[u8], read: &[FileId]) -> Result<(), SaveError> {
+    let saved = replace(path.as_ref(), bytes)?;
+    clear(folder_of(&saved.path), read); // the file that was saved is locked still
+    Ok(())
+}
+
+fn replace(path: &Path, bytes: &[u8]) -> Result<NewFile, SaveError> {
     let target = linked_to(path)?;
     let old = replaceable(&target)?;
-    let folder = match target.parent() {
-        Some(parent) if parent != Path::new("") => parent,
-        _ => Path::new("."),
-    };
+    let folder = folder_of(&target);
     // Opened first: a folder that cannot be flushed is found while nothing has changed yet.
     let flushed = File::open(folder).doing("open the folder", folder)?;
-    remove_left(folder);
-    let mut new = NewFile::create(folder, old.is_some())?;
+    let mut new = NewFile::create(&target, old.is_some())?;
     new.file.write_all(bytes).doing("write the new file", path)?;
     if let Some(old) = &old {
         keep_owner_and_mode(&new.file, old).doing("set the new file's mode", path)?;
     }
     new.file.sync_all().doing("flush the new file", path)?;
     compare(&mut new.file, bytes).doing("read the new file back", path)?;
-    fs::rename(&new.path, &target).doing("replace the file", path)?;
-    new.ours = false;
+    new.take_name(&target).doing("replace the file", path)?;
     match flushed.sync_all() {
         // a file system that does not know of flushing folders
-        Err(error) if matches!(error.kind(), ErrorKind::InvalidInput | ErrorKind::Unsupported) => Ok(()),
-        done => done.doing("flush the folder, and the new file is in its place", path),
+        Err(error) if matches!(error.kind(), ErrorKind::InvalidInput | ErrorKind::Unsupported) => Ok(new),
+        done => done
+            .doing("flush its folder, and it is the new file already", path)
+            .map_or_else(|error| Err(SaveError { replaced: true, ..error }), |()| Ok(new)),
+    }
+}
+
+fn folder_of(target: &Path) -> &Path {
+    match target.parent() {
+        Some(parent) if parent != Path::new("") => parent,
+        _ => Path::new("."),
     }
 }
 
@@ -129,12 +171,21 @@ fn compare(file: &mut File, bytes: &[u8]) -> io::Result<()> {
     }
 }
 
-/// The names that new files may have.
-fn new_names(folder: &Path) -> impl Iterator<Item = PathBuf> {
-    (0..10_000).map(|number| folder.join(format!(".vmd-save-{number}.tmp")))
+const NEW_NAME: (&str, &str) = (".vmd-save-", ".tmp");
+
+/// The names that new files may have beside the target: not its own.
+fn new_names(target: &Path) -> impl Iterator<Item = PathBuf> {
+    let (begin, end) = NEW_NAME;
+    (0..10_000).map(move |number| target.with_file_name(format!("{begin}{number}{end}"))).filter(move |path| path != target)
 }
 
-/// A file beside the target. While it is ours it is locked, and removed where it does not take the target's name.
+fn is_new_name(name: &OsStr) -> bool {
+    let (begin, end) = NEW_NAME;
+    let number = name.to_str().and_then(|name| name.strip_prefix(begin)?.strip_suffix(end));
+    number.is_some_and(|number| !number.is_empty() && number.bytes().all(|digit| digit.is_ascii_digit()))
+}
+
+/// A file beside the target. While it is ours it is removed where it does not take the target's name. It is locked.
 struct NewFile {
     path: PathBuf,
     file: File,
@@ -143,9 +194,10 @@ struct NewFile {
 
 impl NewFile {
     /// Private until it has the old file's mode, where there is an old file.
-    fn create(folder: &Path, private: bool) -> Result<NewFile, SaveError> {
+    fn create(target: &Path, private: bool) -> Result<NewFile, SaveError> {
         let mode = if private { 0o600 } else { 0o666 };
-        for path in new_names(folder) {
+        let doing = "make a new file in the folder";
+        for path in new_names(target) {
             match OpenOptions::new().read(true).write(true).create_new(true).mode(mode).open(&path) {
                 Ok(file) => {
                     let mut new = NewFile { path, file, ours: false };
@@ -155,16 +207,23 @@ impl NewFile {
                     }
                 }
                 Err(error) if error.kind() == ErrorKind::AlreadyExists => {}
-                Err(error) => return Err(error).doing("make a new file in the folder", folder),
+                Err(error) => return Err(error).doing(doing, folder_of(target)),
             }
         }
-        Err(io::Error::other("too many files .vmd-save-N.tmp are there")).doing("make a new file in the folder", folder)
+        Err(io::Error::other("too many files .vmd-save-N.tmp are there")).doing(doing, folder_of(target))
     }
 
     /// Before it was locked, another save may have taken it for one that was left, and removed it. Where the file system has
     /// no locks, none is removed so.
     fn lock(&self) -> bool {
-        !matches!(self.file.try_lock(), Err(TryLockError::WouldBlock)) && same_file(&self.file, &self.path)
+        !matches!(self.file.try_lock(), Err(TryLockError::WouldBlock)) && is_named(&self.file, &self.path)
+    }
+
+    fn take_name(&mut self, target: &Path) -> io::Result<()> {
+        fs::rename(&self.path, target)?;
+        self.ours = false;
+        self.path = target.to_owned();
+        Ok(())
     }
 }
 
@@ -176,23 +235,24 @@ impl Drop for NewFile {
     }
 }
 
-/// Removes the new files of saves that were ended, those whose lock can be had, among the names that sixteen saves at a time
-/// would have. What cannot be removed stays.
-fn remove_left(folder: &Path) {
-    for path in new_names(folder).take(16) {
-        if fs::symlink_metadata(&path).is_ok_and(|found| found.is_file())
+/// Removes the new files of saves that were ended, those whose lock can be had, but for those that were read. What cannot be
+/// removed stays.
+fn clear(folder: &Path, read: &[FileId]) {
+    let Ok(entries) = fs::read_dir(folder) else { return };
+    for path in entries.flatten().filter(|entry| is_new_name(&entry.file_name())).map(|entry| entry.path()) {
+        if fs::symlink_metadata(&path).is_ok_and(|found| found.is_file() && !read.contains(&FileId::of(&found)))
             && let Ok(file) = File::open(&path)
             && file.try_lock().is_ok()
-            && same_file(&file, &path)
+            && is_named(&file, &path)
         {
             let _ = fs::remove_file(&path);
         }
     }
 }
 
-fn same_file(file: &File, path: &Path) -> bool {
+fn is_named(file: &File, path: &Path) -> bool {
     match (file.metadata(), fs::symlink_metadata(path)) {
-        (Ok(open), Ok(named)) => (open.dev(), open.ino()) == (named.dev(), named.ino()),
+        (Ok(open), Ok(named)) => FileId::of(&open) == FileId::of(&named),
         _ => false,
     }
 }

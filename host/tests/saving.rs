@@ -11,6 +11,7 @@ use std::thread;
 use std::time::{Duration, Instant, SystemTime};
 
 use common::{Folder, bones, err, status, vmd, vmd_under};
+use vmd::FileId;
 
 /// A folder with the canonical takes `new` and `old`, and `take`, which is the old one and is to be saved over.
 struct Saving {
@@ -160,8 +161,11 @@ fn killed_before_each_system_call() {
 fn each_system_call_fails() {
     let saving = Saving::of("fails", 1000);
     let Some(mut calls) = system_calls(&saving) else { return };
+    // Rust's library stops the program where a folder that it has listed cannot be closed, which no system refuses.
+    let listed = calls.iter().rposition(|(name, _)| name == "getdents64").unwrap();
+    assert_eq!(calls.remove(listed + 1).0, "close");
     calls.retain(|(name, _)| !["brk", "mmap", "munmap", "mremap"].contains(&name.as_str())); // too little memory is not this
-    let mut told = 0;
+    let (mut told, mut unflushed) = (0, 0);
     for error in ["EIO", "ENOSPC"] {
         for call in &calls {
             saving.put_back();
@@ -175,10 +179,15 @@ fn each_system_call_fails() {
                         "{call:?} failed unseen"
                     );
                 }
-                Some(2) => {
+                Some(code @ (2 | 3)) => {
                     told += 1;
-                    let folder_not_flushed = err(&done).contains("the new file is in its place");
-                    assert_eq!(new, folder_not_flushed, "{call:?}: {}", err(&done));
+                    unflushed += u32::from(code == 3);
+                    assert_eq!(
+                        (new, err(&done).contains("it is the new file")),
+                        (code == 3, code == 3),
+                        "{call:?}: {}",
+                        err(&done)
+                    );
                     assert_eq!(saving.litter(), 0, "{call:?}: {}", err(&done));
                     assert_eq!(err(&done).lines().count(), 1);
                 }
@@ -188,6 +197,7 @@ fn each_system_call_fails() {
     }
     println!("{} system calls failed, twice each; {told} times it was told", calls.len());
     assert!(told > 10);
+    assert_eq!(unflushed, 2, "the flush of the folder, and nothing else");
     saving.expect_next_save_works();
 }
 
@@ -405,6 +415,109 @@ fn names_that_are_taken() {
     assert!(saving.is_new());
     assert_eq!(saving.folder.names(), [".vmd-save-0.tmp", ".vmd-save-1.tmp", ".vmd-save-2.tmp", "new", "take"]);
     assert!(fs::read(saving.folder.join("new")).unwrap() == saving.new);
+}
+
+/// Whatever the number is. Where a save fails nothing is removed.
+#[test]
+fn what_saves_have_left_is_removed_after_one_that_is_done() {
+    let saving = Saving::of("left", 1000);
+    let left = [".vmd-save-0.tmp", ".vmd-save-16.tmp", ".vmd-save-4294967296.tmp"];
+    let others = [".vmd-save-.tmp", ".vmd-save-1x.tmp", "x.vmd-save-1.tmp"];
+    left.iter().chain(&others).for_each(|name| drop(saving.folder.file(name, b"left")));
+    let names = saving.folder.names();
+    assert_eq!(status(&saving.run(&mut vmd_under("trap '' XFSZ; ulimit -f 8"))), 2);
+    assert_eq!(saving.folder.names(), names);
+    assert_eq!(status(&saving.run(&mut vmd())), 0);
+    assert!(saving.is_new());
+    let mut expected = [&others[..], &["new", "take"]].concat();
+    expected.sort();
+    assert_eq!(saving.folder.names(), expected);
+}
+
+/// What a killed save left is rescued: it is the take that is read, by whatever name or way.
+#[test]
+fn a_take_that_was_read_is_not_removed() {
+    let saving = Saving::of("rescue", 1000);
+    let name = ".vmd-save-0.tmp";
+    let left = saving.folder.file(name, &saving.new);
+    fs::hard_link(&left, saving.folder.join("link")).unwrap();
+    symlink(name, saving.folder.join("symlink")).unwrap();
+    let in_folder = |settings: &str| {
+        let mut command = vmd_under(settings);
+        command.current_dir(&saving.folder.0);
+        command
+    };
+    let full = "trap '' XFSZ; ulimit -f 8";
+    for (settings, words) in [
+        (":", vec!["export", name]),
+        (":", vec!["export", "link"]),
+        (":", vec!["export", "symlink"]),
+        (":", vec!["join", "new", name, "new"]),
+        ("exec < .vmd-save-0.tmp", vec!["export", "-"]),
+        ("exec < .vmd-save-0.tmp", vec!["export", "/dev/stdin"]),
+    ] {
+        for (settings, expected) in [(settings.to_owned(), 0), (format!("{full}; {settings}"), 2)] {
+            let done = in_folder(&settings).args(&words).args(["-o", "take"]).output().unwrap();
+            assert_eq!(status(&done), expected, "{words:?}: {}", err(&done));
+            assert!(fs::read(&left).is_ok_and(|found| found == saving.new), "{settings}: {words:?}");
+        }
+    }
+    // What comes through a pipe may have been any file.
+    let done = Command::new("sh")
+        .current_dir(&saving.folder.0)
+        .args(["-c", "cat .vmd-save-0.tmp | \"$0\" export - -o take", env!("CARGO_BIN_EXE_vmd")])
+        .output()
+        .unwrap();
+    assert_eq!((status(&done), err(&done)), (0, String::new()));
+    assert!(saving.is_new() && fs::read(&left).unwrap() == saving.new);
+    // A take that was not read in its place: the one that was left is removed.
+    fs::remove_file(saving.folder.join("link")).unwrap();
+    fs::remove_file(saving.folder.join("symlink")).unwrap();
+    saving.expect_next_save_works();
+}
+
+/// A target whose name is one that new files have.
+#[test]
+fn a_target_that_is_named_as_new_files_are() {
+    let saving = Saving::of("target", 1000);
+    let target = saving.folder.join(".vmd-save-0.tmp");
+    let saved_under = |settings: &str| {
+        vmd_under(settings).arg("export").arg(saving.folder.join("new")).arg("-o").arg(&target).output().unwrap()
+    };
+    // not there yet: it is there whole or not at all
+    assert!(saved_under("ulimit -f 8").status.code().is_none());
+    assert!(!target.exists());
+    assert_eq!(status(&saved_under("trap '' XFSZ; ulimit -f 8")), 2);
+    assert!(!target.exists());
+    let done = saved_under(":");
+    assert_eq!((status(&done), err(&done)), (0, String::new()));
+    assert!(fs::read(&target).unwrap() == saving.new);
+    // saved over
+    fs::write(&target, &saving.old).unwrap();
+    assert_eq!(status(&saved_under("trap '' XFSZ; ulimit -f 8")), 2);
+    assert!(fs::read(&target).unwrap() == saving.old);
+    assert_eq!(status(&saved_under(":")), 0);
+    assert!(fs::read(&target).unwrap() == saving.new);
+    assert_eq!(saving.folder.names(), [".vmd-save-0.tmp", "new", "take"]);
+}
+
+/// A program that saves may have read any file, and `save` does not know which: it removes nothing but its own new file.
+#[test]
+fn the_crate_removes_what_it_is_told_was_not_read() {
+    let saving = Saving::of("crate", 10);
+    let left = saving.folder.file(".vmd-save-0.tmp", b"left");
+    let read = saving.folder.file(".vmd-save-1.tmp", b"read");
+    let take = saving.take().into_os_string().into_string().unwrap();
+    vmd::save(&take, &saving.new).unwrap();
+    assert!(saving.is_new());
+    assert_eq!(saving.folder.names(), [".vmd-save-0.tmp", ".vmd-save-1.tmp", "new", "take"]);
+    let kept = FileId::of(&fs::metadata(&read).unwrap());
+    vmd::save_and_clear(&take, &saving.old, &[kept]).unwrap();
+    assert_eq!(saving.folder.names(), [".vmd-save-1.tmp", "new", "take"]);
+    assert!(!left.exists() && !saving.is_new());
+
+    let error = vmd::save(&saving.folder.0, &saving.new).unwrap_err();
+    assert!(!error.replaced(), "{error}");
 }
 
 /// Many at once, over one take and over others in the same folder.
