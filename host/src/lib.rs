@@ -32,8 +32,11 @@
 mod c;
 mod parts;
 mod refusal;
+mod rights;
 mod save;
 mod shown;
+#[allow(unsafe_code)]
+mod system;
 mod take;
 
 pub use c::{export_into, export_size, first_fault, join_into, join_size};

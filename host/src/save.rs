@@ -2,11 +2,13 @@
 use std::ffi::OsStr;
 use std::fs::{self, File, Metadata, OpenOptions, TryLockError};
 use std::io::{self, ErrorKind, Read, Seek, Write};
-use std::os::unix::fs::{MetadataExt, OpenOptionsExt, fchown};
+use std::os::unix::fs::{MetadataExt, OpenOptionsExt};
 use std::path::{Path, PathBuf};
 use std::{error, fmt};
 
+use crate::rights;
 use crate::shown::shown;
+use crate::system;
 
 /// What could not be done, with which file, and why.
 #[derive(Debug)]
@@ -38,7 +40,7 @@ impl error::Error for SaveError {
 }
 
 /// Names what was being done, for an error that has only the system's word.
-trait While<T> {
+pub trait While<T> {
     fn doing(self, doing: &'static str, path: &Path) -> Result<T, SaveError>;
 }
 
@@ -69,9 +71,14 @@ impl FileId {
 /// where the process is ended, at any point, it is the old file or the new one. Where the flush of the folder fails, the new
 /// file has the name already; that is the one error after which the target is the new file ([`SaveError::replaced`]).
 ///
-/// The target keeps its mode, and its owner and group where the system lets the caller set them. A target that the caller
-/// may not write to is not replaced. A symbolic link is followed: the file that it leads to is replaced, and the link stays.
-/// Other hard links to the old file keep its old contents.
+/// The target keeps its mode, its access list (POSIX) and the attributes that users set (`user.`), and its owner and group,
+/// each where the system lets the caller set it. Where the group cannot be kept, the group and all others are left with what
+/// both were allowed, and a target with an access list is not replaced; set-user and set-group bits stay with their owner and
+/// group only. Other attributes, as labels, are those of a new file.
+///
+/// A target that is read-only is not replaced, by root neither, nor one that the caller may not write to. A symbolic link is
+/// followed: the file that it leads to is replaced, and the link stays; one of another's in a folder where all may make
+/// links, as /tmp, is not followed. Other hard links to the old file keep its old contents.
 ///
 /// The new file is named `.vmd-save-0.tmp`, or with the next number that is free; it is locked while it is written. One that
 /// is not locked was left by a process that was ended. It stays there, since the caller may have read it:
@@ -91,14 +98,14 @@ pub fn save_and_clear(path: impl AsRef<Path>, bytes: &[u8], read: &[FileId]) -> 
 
 fn replace(path: &Path, bytes: &[u8]) -> Result<NewFile, SaveError> {
     let target = linked_to(path)?;
-    let old = replaceable(&target)?;
+    let old = replaceable(path, &target)?;
     let folder = folder_of(&target);
     // Opened first: a folder that cannot be flushed is found while nothing has changed yet.
     let flushed = File::open(folder).doing("open the folder", folder)?;
     let mut new = NewFile::create(&target, old.is_some())?;
     new.file.write_all(bytes).doing("write the new file", path)?;
     if let Some(old) = &old {
-        keep_owner_and_mode(&new.file, old).doing("set the new file's mode", path)?;
+        rights::keep(old, &new.file, path)?;
     }
     new.file.sync_all().doing("flush the new file", path)?;
     compare(&mut new.file, bytes).doing("read the new file back", path)?;
@@ -123,38 +130,47 @@ fn folder_of(target: &Path) -> &Path {
 fn linked_to(path: &Path) -> Result<PathBuf, SaveError> {
     let mut target = path.to_owned();
     for _ in 0..40 {
-        match fs::read_link(&target) {
-            Ok(link) => target = target.parent().unwrap_or(Path::new("")).join(link),
-            Err(_) => return Ok(target), // no link, or no such file
-        }
+        // no link, or no such file
+        let Ok(link) = fs::read_link(&target) else { return Ok(target) };
+        may_follow(&target).doing("follow the link", &target)?;
+        target = target.parent().unwrap_or(Path::new("")).join(link);
     }
     Err(io::Error::other("too many symbolic links")).doing("find the file", path)
 }
 
-/// The old file where there is one, if it may be replaced. A rename asks only for permission on the folder: whether the file
-/// itself may be written to is found by opening it.
-fn replaceable(target: &Path) -> Result<Option<Metadata>, SaveError> {
-    let old = match fs::symlink_metadata(target) {
-        Err(error) if error.kind() == ErrorKind::NotFound => return Ok(None),
-        found => found.doing("find the file", target)?,
-    };
-    if old.is_dir() {
-        return Err(io::Error::other("it is a folder")).doing("replace the file", target);
+/// In a folder where all may make files and nobody may remove another's, as /tmp, Linux can be set to follow only the
+/// caller's own links and the folder's owner's (protected_symlinks). Here links are read and not followed by the system, so
+/// that rule is kept here, and everywhere.
+fn may_follow(link: &Path) -> io::Result<()> {
+    let folder = fs::metadata(folder_of(link))?;
+    let owner = fs::symlink_metadata(link)?.uid();
+    if folder.mode() & 0o1002 == 0o1002 && owner != system::user() && owner != folder.uid() {
+        return Err(io::Error::other("it is another's, in a folder where all may make links"));
     }
-    if !old.is_file() {
-        return Err(io::Error::other("it is no regular file")).doing("replace the file", target);
-    }
-    OpenOptions::new().write(true).open(target).doing("write to the file", target)?;
-    Ok(Some(old))
+    Ok(())
 }
 
-fn keep_owner_and_mode(file: &File, old: &Metadata) -> io::Result<()> {
-    let new = file.metadata()?;
-    if (new.uid(), new.gid()) != (old.uid(), old.gid()) {
-        // Only root may give a file away; for others the file is theirs, as any new file is.
-        let _ = fchown(file, Some(old.uid()), Some(old.gid()));
+/// The old file where there is one, if it may be replaced. A rename asks only for permission on the folder: whether the file
+/// itself may be written to is found by its mode, which root heeds too, and by opening it.
+fn replaceable(path: &Path, target: &Path) -> Result<Option<File>, SaveError> {
+    let refused = |doing, cause| Err(io::Error::other(cause)).doing(doing, path);
+    let found = match fs::metadata(path) {
+        Err(error) if error.kind() == ErrorKind::NotFound => return Ok(None),
+        found => found.doing("find the file", path)?,
+    };
+    if found.is_dir() {
+        return refused("replace the file", "it is a folder");
     }
-    file.set_permissions(old.permissions())
+    if !found.is_file() {
+        return refused("replace the file", "it is no regular file");
+    }
+    if !fs::symlink_metadata(target).is_ok_and(|named| FileId::of(&named) == FileId::of(&found)) {
+        return refused("replace the file", "it has no name"); // a link of /proc to a file that was removed
+    }
+    if found.permissions().readonly() {
+        return refused("write to the file", "it is read-only");
+    }
+    OpenOptions::new().write(true).open(target).doing("write to the file", path).map(Some)
 }
 
 fn compare(file: &mut File, bytes: &[u8]) -> io::Result<()> {

@@ -10,7 +10,7 @@ use std::process::{Command, Output, Stdio};
 use std::thread;
 use std::time::{Duration, Instant, SystemTime};
 
-use common::{Folder, bones, err, status, vmd, vmd_under};
+use common::{Folder, attributes, bones, err, status, vmd, vmd_under};
 use vmd::FileId;
 
 /// A folder with the canonical takes `new` and `old`, and `take`, which is the old one and is to be saved over.
@@ -163,7 +163,8 @@ fn each_system_call_fails() {
     let Some(mut calls) = system_calls(&saving) else { return };
     // Rust's library stops the program where a folder that it has listed cannot be closed, which no system refuses.
     let listed = calls.iter().rposition(|(name, _)| name == "getdents64").unwrap();
-    assert_eq!(calls.remove(listed + 1).0, "close");
+    let closed = listed + calls[listed..].iter().position(|(name, _)| name == "close").unwrap();
+    calls.remove(closed);
     calls.retain(|(name, _)| !["brk", "mmap", "munmap", "mremap"].contains(&name.as_str())); // too little memory is not this
     let (mut told, mut unflushed) = (0, 0);
     for error in ["EIO", "ENOSPC"] {
@@ -290,6 +291,151 @@ fn the_owner_stays() {
     assert_eq!((found.uid(), found.gid()), (65534, 65534));
 }
 
+/// The command as another user of these groups, where root may be one.
+fn as_another(groups: &str) -> Command {
+    let mut setpriv = Command::new("setpriv");
+    setpriv.args(["--reuid=65534", "--regid=65534"]);
+    setpriv.arg(if groups.is_empty() { "--clear-groups".into() } else { format!("--groups={groups}") });
+    setpriv.arg(env!("CARGO_BIN_EXE_vmd"));
+    setpriv
+}
+
+/// Another user saves over a take of this owner, group and mode: the owner, group and mode that it has then. None where that
+/// cannot be tried.
+fn saved_by_another(groups: &str, owner: u32, group: u32, mode: u32) -> Option<(u32, u32, u32)> {
+    let saving = Saving::of("another", 10);
+    fs::set_permissions(&saving.folder.0, Permissions::from_mode(0o777)).unwrap();
+    let found = std::os::unix::fs::chown(saving.take(), Some(owner), Some(group)).and_then(|()| {
+        fs::set_permissions(saving.take(), Permissions::from_mode(mode)).unwrap();
+        saving.words(&mut as_another(groups)).output()
+    });
+    match found {
+        Ok(done) => {
+            assert_eq!((status(&done), err(&done)), (0, String::new()));
+            assert!(saving.is_new());
+            let found = fs::metadata(saving.take()).unwrap();
+            Some((found.uid(), found.gid(), found.mode() & 0o7777))
+        }
+        Err(error) => {
+            println!("not tried: saving as another user: {error}");
+            None
+        }
+    }
+}
+
+/// One of a crew saves over a take of another's: it is the crew's still.
+#[test]
+fn the_group_stays_where_the_owner_cannot() {
+    if let Some(found) = saved_by_another("12345", 1000, 12345, 0o664) {
+        assert_eq!(found, (65534, 12345, 0o664));
+    }
+}
+
+/// Neither the caller's group gets what the lost one was allowed, nor the members of the lost one, now among all others,
+/// what it was denied.
+#[test]
+fn a_lost_group_widens_no_rights() {
+    for (old, new) in [(0o664, 0o644), (0o660, 0o600), (0o640, 0o600), (0o604, 0o600), (0o646, 0o644), (0o666, 0o666)] {
+        if let Some(found) = saved_by_another("", 65534, 12345, old) {
+            assert_eq!(found, (65534, 65534, new), "{old:o}");
+        }
+    }
+}
+
+#[test]
+fn set_id_bits_are_carried_to_no_other_owner() {
+    for (owner, group, old, new) in
+        [(1000, 65534, 0o4666, 0o666), (65534, 12345, 0o4666, 0o666), (65534, 65534, 0o4644, 0o4644)]
+    {
+        if let Some(found) = saved_by_another("", owner, group, old) {
+            assert_eq!(found, (65534, 65534, new), "{owner} {group} {old:o}");
+        }
+    }
+}
+
+/// What a crew sets on a take that is to stay, for root too.
+#[test]
+fn a_read_only_take_is_not_replaced() {
+    let saving = Saving::of("readonly", 10);
+    fs::set_permissions(saving.take(), Permissions::from_mode(0o444)).unwrap();
+    let done = saving.run(&mut vmd());
+    assert_eq!(status(&done), 2);
+    assert!(err(&done).contains("cannot write to the file: it is read-only"), "{}", err(&done));
+    assert!(!saving.is_new());
+    assert_eq!(saving.folder.names(), ["new", "take"]);
+}
+
+const ACCESS_LIST: &str = "system.posix_acl_access";
+
+/// Owner, user 1234, group, mask and others with these rights.
+fn access_list(owner: u16, user: u16, group: u16, mask: u16, others: u16) -> Vec<u8> {
+    let none = u32::MAX;
+    let entries = [(1, owner, none), (2, user, 1234), (4, group, none), (0x10, mask, none), (0x20, others, none)];
+    let mut list = 2u32.to_le_bytes().to_vec();
+    for (tag, rights, id) in entries {
+        list.extend([u16::to_le_bytes(tag), rights.to_le_bytes()].concat());
+        list.extend(id.to_le_bytes());
+    }
+    list
+}
+
+#[test]
+fn access_lists_and_the_users_attributes_stay() {
+    let saving = Saving::of("attributes", 10);
+    // The mode has the mask in the group's place: without the list the group could write.
+    let list = access_list(6, 6, 4, 6, 0);
+    let set = attributes::set(&saving.take(), ACCESS_LIST, &list)
+        .and_then(|()| attributes::set(&saving.take(), "user.dancer", b"\0leap"))
+        .and_then(|()| attributes::set(&saving.take(), "user.empty", b""));
+    if let Err(error) = set {
+        return println!("not tried: access lists and attributes: {error}");
+    }
+    assert_eq!(fs::metadata(saving.take()).unwrap().mode() & 0o7777, 0o660);
+    saving.expect_next_save_works();
+    let found = |name| attributes::get(&saving.take(), name);
+    assert_eq!(found(ACCESS_LIST), Some(list));
+    assert_eq!((found("user.dancer"), found("user.empty")), (Some(b"\0leap".to_vec()), Some(vec![])));
+    assert_eq!(fs::metadata(saving.take()).unwrap().mode() & 0o7777, 0o660);
+}
+
+/// A folder gives each new file an access list. A take without one has none after a save, and its mode.
+#[test]
+fn no_access_list_comes_from_the_folder() {
+    let saving = Saving::of("default", 10);
+    fs::set_permissions(saving.take(), Permissions::from_mode(0o664)).unwrap();
+    if let Err(error) = attributes::set(&saving.folder.0, "system.posix_acl_default", &access_list(7, 6, 6, 7, 0)) {
+        return println!("not tried: access lists: {error}");
+    }
+    saving.expect_next_save_works();
+    assert_eq!(attributes::get(&saving.take(), ACCESS_LIST), None);
+    assert_eq!(fs::metadata(saving.take()).unwrap().mode() & 0o7777, 0o664);
+    // a file that was not there is as any new file is
+    fs::remove_file(saving.take()).unwrap();
+    saving.expect_next_save_works();
+    assert_eq!(attributes::get(&saving.take(), ACCESS_LIST), Some(access_list(6, 6, 6, 6, 0)));
+}
+
+/// The group's entry in an access list would be another group's.
+#[test]
+fn an_access_list_whose_group_is_lost() {
+    let saving = Saving::of("list", 10);
+    fs::set_permissions(&saving.folder.0, Permissions::from_mode(0o777)).unwrap();
+    let list = access_list(6, 6, 6, 6, 4);
+    let prepared = std::os::unix::fs::chown(saving.take(), Some(65534), Some(12345))
+        .and_then(|()| attributes::set(&saving.take(), ACCESS_LIST, &list))
+        .and_then(|()| saving.words(&mut as_another("")).output());
+    match prepared {
+        Err(error) => println!("not tried: an access list whose group is lost: {error}"),
+        Ok(done) => {
+            assert_eq!(status(&done), 2);
+            assert!(err(&done).contains("cannot keep its access list: its group cannot be kept"), "{}", err(&done));
+            assert!(!saving.is_new());
+            assert_eq!(attributes::get(&saving.take(), ACCESS_LIST), Some(list));
+            assert_eq!(saving.folder.names(), ["new", "take"]);
+        }
+    }
+}
+
 /// A new file gets the mode that any new file gets.
 #[test]
 fn a_file_that_was_not_there() {
@@ -327,6 +473,39 @@ fn a_link_is_followed_and_stays() {
     let done = saving.run(&mut vmd());
     assert_eq!(status(&done), 2);
     assert!(err(&done).contains("too many symbolic links"), "{}", err(&done));
+}
+
+/// Where everyone may make links, as in /tmp, one of another's is not followed, whatever the system is set to.
+#[test]
+fn a_link_of_anothers_in_a_folder_of_all() {
+    let saving = Saving::of("sticky", 10);
+    let all = saving.folder.join("all");
+    fs::create_dir(&all).unwrap();
+    let link = all.join("link");
+    symlink("../take", &link).unwrap();
+    let save = || vmd().arg("export").arg(saving.folder.join("new")).arg("-o").arg(&link).output().unwrap();
+    let expect_followed = || {
+        saving.put_back();
+        let done = save();
+        assert_eq!((status(&done), err(&done), saving.is_new()), (0, String::new(), true));
+    };
+    fs::set_permissions(&all, Permissions::from_mode(0o1777)).unwrap();
+    expect_followed(); // the caller's own
+    if let Err(error) = std::os::unix::fs::lchown(&link, Some(65534), None) {
+        return println!("not tried: a link of another's: {error}");
+    }
+    saving.put_back();
+    let done = save();
+    assert_eq!(status(&done), 2);
+    assert!(err(&done).contains("cannot follow the link: it is another's"), "{}", err(&done));
+    assert!(!saving.is_new());
+    for mode in [0o777, 0o1775] {
+        fs::set_permissions(&all, Permissions::from_mode(mode)).unwrap();
+        expect_followed();
+    }
+    fs::set_permissions(&all, Permissions::from_mode(0o1777)).unwrap();
+    std::os::unix::fs::chown(&all, Some(65534), None).unwrap();
+    expect_followed(); // the folder's owner's
 }
 
 /// Folders, pipes and devices are not replaced.
@@ -376,7 +555,11 @@ fn without_permission() {
     };
     fs::set_permissions(&saving.folder.0, Permissions::from_mode(0o777)).unwrap();
     fs::set_permissions(saving.take(), Permissions::from_mode(0o444)).unwrap();
-    expect("cannot write to the file: Permission denied");
+    expect("cannot write to the file: it is read-only");
+    fs::set_permissions(saving.take(), Permissions::from_mode(0o644)).unwrap();
+    if fs::metadata(saving.take()).unwrap().uid() == 0 {
+        expect("cannot write to the file: Permission denied");
+    }
     fs::set_permissions(saving.take(), Permissions::from_mode(0o666)).unwrap();
     fs::set_permissions(&saving.folder.0, Permissions::from_mode(0o555)).unwrap();
     expect("cannot make a new file in the folder: Permission denied");

@@ -93,3 +93,39 @@ pub fn out(output: &Output) -> String {
 pub fn err(output: &Output) -> String {
     String::from_utf8(output.stderr.clone()).unwrap()
 }
+
+/// Extended attributes of files, by the system's calls.
+pub mod attributes {
+    use std::ffi::{CString, c_char, c_int, c_void};
+    use std::io;
+    use std::os::unix::ffi::OsStrExt;
+    use std::path::Path;
+
+    unsafe extern "C" {
+        fn setxattr(path: *const c_char, name: *const c_char, value: *const c_void, size: usize, flags: c_int) -> c_int;
+        fn getxattr(path: *const c_char, name: *const c_char, value: *mut c_void, size: usize) -> isize;
+    }
+
+    fn c_strings(path: &Path, name: &str) -> (CString, CString) {
+        (CString::new(path.as_os_str().as_bytes()).unwrap(), CString::new(name).unwrap())
+    }
+
+    pub fn set(path: &Path, name: &str, value: &[u8]) -> io::Result<()> {
+        let (path, name) = c_strings(path, name);
+        // SAFETY: both strings end with a zero, and the value has so many bytes.
+        match unsafe { setxattr(path.as_ptr(), name.as_ptr(), value.as_ptr().cast(), value.len(), 0) } {
+            0 => Ok(()),
+            _ => Err(io::Error::last_os_error()),
+        }
+    }
+
+    /// None where the file has none of that name.
+    pub fn get(path: &Path, name: &str) -> Option<Vec<u8>> {
+        let (path, name) = c_strings(path, name);
+        let mut value = vec![0; 1 << 16];
+        // SAFETY: both strings end with a zero, and the value has room for so many bytes.
+        let len = unsafe { getxattr(path.as_ptr(), name.as_ptr(), value.as_mut_ptr().cast(), value.len()) };
+        value.truncate(usize::try_from(len).ok()?);
+        Some(value)
+    }
+}

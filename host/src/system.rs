@@ -1,0 +1,59 @@
+//! Calls of the system that Rust's library does not have, for saving.
+use std::ffi::{CStr, CString, c_char, c_int, c_void};
+use std::fs::File;
+use std::io;
+use std::os::fd::AsRawFd;
+
+unsafe extern "C" {
+    safe fn geteuid() -> u32;
+    fn flistxattr(file: c_int, names: *mut c_char, size: usize) -> isize;
+    fn fgetxattr(file: c_int, name: *const c_char, value: *mut c_void, size: usize) -> isize;
+    fn fsetxattr(file: c_int, name: *const c_char, value: *const c_void, size: usize, flags: c_int) -> c_int;
+    fn fremovexattr(file: c_int, name: *const c_char) -> c_int;
+}
+
+/// The user whose rights the process has.
+pub fn user() -> u32 {
+    geteuid()
+}
+
+/// The names of a file's extended attributes; none where the file system has none.
+pub fn attributes(file: &File) -> io::Result<Vec<CString>> {
+    // SAFETY: there is room for so many bytes, and as many as it answers are written.
+    let names = filled(|names, room| unsafe { flistxattr(file.as_raw_fd(), names.cast(), room) });
+    match names {
+        Ok(names) => Ok(names
+            .split_inclusive(|byte| *byte == 0)
+            .filter_map(|name| CString::from_vec_with_nul(name.to_vec()).ok())
+            .collect()),
+        Err(error) if error.kind() == io::ErrorKind::Unsupported => Ok(Vec::new()),
+        Err(error) => Err(error),
+    }
+}
+
+pub fn attribute(file: &File, name: &CStr) -> io::Result<Vec<u8>> {
+    // SAFETY: the name ends with a zero, there is room for so many bytes, and as many as it answers are written.
+    filled(|value, room| unsafe { fgetxattr(file.as_raw_fd(), name.as_ptr(), value.cast(), room) })
+}
+
+pub fn set_attribute(file: &File, name: &CStr, value: &[u8]) -> io::Result<()> {
+    // SAFETY: the name ends with a zero, and the value has so many bytes.
+    done(unsafe { fsetxattr(file.as_raw_fd(), name.as_ptr(), value.as_ptr().cast(), value.len(), 0) })
+}
+
+pub fn remove_attribute(file: &File, name: &CStr) -> io::Result<()> {
+    // SAFETY: the name ends with a zero.
+    done(unsafe { fremovexattr(file.as_raw_fd(), name.as_ptr()) })
+}
+
+fn done(answer: c_int) -> io::Result<()> {
+    if answer == 0 { Ok(()) } else { Err(io::Error::last_os_error()) }
+}
+
+/// What a call writes. No list of names and no value of an attribute is longer than 65,536 bytes.
+fn filled(call: impl Fn(*mut u8, usize) -> isize) -> io::Result<Vec<u8>> {
+    let mut bytes = vec![0; 1 << 16];
+    let len = call(bytes.as_mut_ptr(), bytes.len());
+    bytes.truncate(usize::try_from(len).map_err(|_| io::Error::last_os_error())?);
+    Ok(bytes)
+}
