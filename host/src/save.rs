@@ -67,7 +67,9 @@ impl FileId {
 /// Puts these bytes in the place of the file, whole or not at all.
 ///
 /// They are written to a new file in the target's folder, flushed to the disk, read back and compared; only then does the
-/// new file take the target's name, in one step, and the folder is flushed. Where anything fails the target is as it was;
+/// new file take the target's name, in one step, and the folder is flushed. The system is told to forget what it holds of
+/// the new file in memory, so that what is read back comes from the disk, or from the disk's own memory. Where the file
+/// system is in memory, or another machine's, it need not. Where anything fails the target is as it was;
 /// where the process is ended, at any point, it is the old file or the new one. Where the flush of the folder fails, the new
 /// file has the name already; that is the one error after which the target is the new file ([`SaveError::replaced`]).
 ///
@@ -108,6 +110,7 @@ fn replace(path: &Path, bytes: &[u8]) -> Result<NewFile, SaveError> {
         rights::keep(old, &new.file, path)?;
     }
     new.file.sync_all().doing("flush the new file", path)?;
+    system::forget_cached(&new.file);
     compare(&mut new.file, bytes).doing("read the new file back", path)?;
     new.take_name(&target).doing("replace the file", path)?;
     match flushed.sync_all() {

@@ -6,6 +6,7 @@ use std::os::fd::AsRawFd;
 
 unsafe extern "C" {
     safe fn geteuid() -> u32;
+    safe fn posix_fadvise(file: c_int, from: i64, len: i64, advice: c_int) -> c_int;
     fn flistxattr(file: c_int, names: *mut c_char, size: usize) -> isize;
     fn fgetxattr(file: c_int, name: *const c_char, value: *mut c_void, size: usize) -> isize;
     fn fsetxattr(file: c_int, name: *const c_char, value: *const c_void, size: usize, flags: c_int) -> c_int;
@@ -15,6 +16,13 @@ unsafe extern "C" {
 /// The user whose rights the process has.
 pub fn user() -> u32 {
     geteuid()
+}
+
+/// Has the system forget what it holds of a file in memory, if it has flushed it and the file system can: what is read after
+/// comes from the disk.
+pub fn forget_cached(file: &File) {
+    const POSIX_FADV_DONTNEED: c_int = 4;
+    posix_fadvise(file.as_raw_fd(), 0, 0, POSIX_FADV_DONTNEED); // advice, and no harm where it is not taken
 }
 
 /// The names of a file's extended attributes; none where the file system has none.

@@ -202,20 +202,20 @@ fn each_system_call_fails() {
     saving.expect_next_save_works();
 }
 
-/// The new file is flushed before it takes the name, and the folder after.
+/// The new file is flushed, and dropped from memory, before it takes the name, and the folder is flushed after.
 #[test]
 fn flushed_before_and_after() {
     let saving = Saving::of("flushed", 1000);
     let Some(calls) = system_calls(&saving) else { return };
-    let order: Vec<_> =
-        calls.iter().map(|(name, _)| name.as_str()).filter(|n| ["write", "fsync", "rename"].contains(n)).collect();
-    assert_eq!(order, ["write", "fsync", "rename", "fsync"]);
+    let kinds = ["write", "fsync", "fadvise64", "rename"];
+    let order: Vec<_> = calls.iter().map(|(name, _)| name.as_str()).filter(|n| kinds.contains(n)).collect();
+    assert_eq!(order, ["write", "fsync", "fadvise64", "rename", "fsync"]);
 }
 
-/// A disk that says it has written and has not: what is read back is not what was written.
+/// The system says that it has taken the bytes, and has not.
 #[test]
-fn a_write_that_was_lost() {
-    let saving = Saving::of("lost", 1000);
+fn a_write_that_was_not_made() {
+    let saving = Saving::of("unmade", 1000);
     let Some(calls) = system_calls(&saving) else { return };
     let call = calls.iter().find(|(name, _)| name == "write").unwrap();
     saving.put_back();
@@ -224,6 +224,45 @@ fn a_write_that_was_lost() {
     assert!(err(&done).contains("cannot read the new file back: it is not what was written"), "{}", err(&done));
     assert!(!saving.is_new());
     assert_eq!(saving.folder.names(), ["new", "take"]);
+}
+
+/// A disk that has lost a byte of what it said it has flushed: what is read back comes from the disk, and not from what the
+/// system still has of it in memory. The disk is a file that the test writes to while the command is stopped after its flush,
+/// where root may mount one.
+#[test]
+fn a_byte_that_the_disk_lost() {
+    let mut saving = Saving::of("lost", 1000);
+    let byte = b"this byte of the disk";
+    saving.new[30..50].copy_from_slice(&byte[..20]); // the model name
+    saving.folder.file("new", &saving.new);
+    let script = r#"
+        cd "$1" || exit 99
+        truncate -s 8M image && mkfs.ext4 -q -O ^has_journal image && mkdir disk && mount -o loop image disk || exit 99
+        cp take disk/take && sync disk/take || exit 99
+        strace -o log -e inject=fsync:signal=SIGSTOP:when=1 "$2" export new -o disk/take &
+        until grep -q 'stopped by SIGSTOP' log; do
+            kill -0 $! || exit 99
+            sleep 0.01
+        done
+        place=$(grep -abo 'this byte of the dis' image | cut -d: -f1) || exit 98
+        [ -n "$place" ] && printf T | dd of=image bs=1 seek="$place" conv=notrunc 2> dd || exit 97
+        kill -CONT $(cat /proc/$!/task/$!/children)
+        wait $!
+        echo "$?" > status
+        ls -A disk | grep -v lost+found > names
+        cp disk/take take
+    "#;
+    let mut shell = Command::new("unshare");
+    shell.args(["-m", "sh", "-c", script, "sh"]).arg(&saving.folder.0).arg(env!("CARGO_BIN_EXE_vmd"));
+    let done = match shell.output() {
+        Ok(done) if done.status.code() != Some(99) => done,
+        _ => return println!("not tried: no file system can be mounted here, or there is no strace"),
+    };
+    assert!(done.status.success(), "{done:?}");
+    assert_eq!(fs::read_to_string(saving.folder.join("status")).unwrap(), "2\n", "{done:?}");
+    assert!(err(&done).contains("cannot read the new file back: it is not what was written"), "{}", err(&done));
+    assert_eq!(fs::read_to_string(saving.folder.join("names")).unwrap(), "take\n");
+    assert!(!saving.is_new());
 }
 
 /// A disk that is full, by a limit on the length of files: the write fails, or the process is ended.
