@@ -1,6 +1,8 @@
 //! The command `vmd`: lists, saves and joins takes.
-#![forbid(unsafe_code)]
+#![deny(unsafe_code)]
 
+#[allow(unsafe_code)]
+mod streams;
 mod words;
 
 use std::env;
@@ -8,7 +10,6 @@ use std::ffi::{OsStr, OsString};
 use std::fmt;
 use std::fs::File;
 use std::io::{self, ErrorKind, Read, Write};
-use std::os::fd::AsFd;
 use std::process::ExitCode;
 
 use vmd::{Error, FileId, Refusal, Take, shown};
@@ -220,7 +221,7 @@ impl Sources {
 
     /// Memory for a file whose length is known is asked for at once.
     fn read_whole(&mut self, name: &OsStr) -> io::Result<Vec<u8>> {
-        let mut file = if name == "-" { io::stdin().as_fd().try_clone_to_owned()?.into() } else { File::open(name)? };
+        let mut file = if name == "-" { streams::standard_input() } else { File::open(name) }?;
         let found = file.metadata()?;
         if found.is_dir() {
             return Err(io::Error::other("it is a folder"));
@@ -242,7 +243,7 @@ impl Sources {
     }
 
     fn write(&self, name: &OsStr, bytes: &[u8]) -> Result<u8, Failure> {
-        if name == "-" {
+        if name == "-" || name == "/dev/stdout" {
             return to_standard_output(bytes);
         }
         let saved = if self.unknown { vmd::save(name, bytes) } else { vmd::save_and_clear(name, bytes, &self.files) };
@@ -259,9 +260,8 @@ fn print(text: &str) -> Result<u8, Failure> {
 }
 
 fn to_standard_output(bytes: &[u8]) -> Result<u8, Failure> {
-    let mut out = io::stdout().lock();
-    out.write_all(bytes)
-        .and_then(|()| out.flush())
+    streams::standard_output()
+        .and_then(|mut out| out.write_all(bytes))
         .map_err(|error| Failure::Io(format!("cannot write to standard output: {error}")))?;
     Ok(0)
 }

@@ -1,4 +1,5 @@
-//! Calls of the system that Rust's library does not have, for saving.
+//! Calls of the system that Rust's library does not have, for saving. Types and numbers are those of 64-bit Linux, for which
+//! the library is built.
 use std::ffi::{CStr, CString, c_char, c_int, c_void};
 use std::fs::File;
 use std::io;

@@ -318,3 +318,72 @@ fn an_output_that_cannot_be_written() {
     assert_eq!(status(&done), 2);
     assert!(err(&done).contains("Broken pipe"), "{}", err(&done));
 }
+
+/// A standard output that is closed, or open for reading only: nothing is written, and that is told. Rust's own takes both for
+/// outputs that take everything.
+#[test]
+fn a_standard_output_that_takes_nothing() {
+    let folder = Folder::new("closed");
+    folder.file("take", &bones(3, 1));
+    for words in [
+        &["export", "take", "-o", "-"][..],
+        &["export", "take", "-o", "/dev/stdout"],
+        &["join", "take", "take", "-o", "-"],
+        &["list", "take"],
+        &["list", "--help"],
+        &["--help"],
+        &["--version"],
+    ] {
+        for settings in ["exec >&-", "exec 1< /dev/null", "exec 1< take"] {
+            let done = vmd_under(settings).current_dir(&folder.0).args(words).output().unwrap();
+            assert_eq!(status(&done), 2, "{settings}: {words:?}");
+            assert!(err(&done).starts_with("vmd: cannot write to standard output: "), "{}", err(&done));
+            assert_eq!(err(&done).lines().count(), 1);
+        }
+        // /dev/null takes everything, however it was opened
+        for settings in ["exec > /dev/null", "exec 1<> /dev/null"] {
+            let done = vmd_under(settings).current_dir(&folder.0).args(words).output().unwrap();
+            assert_eq!((status(&done), err(&done)), (0, String::new()), "{settings}: {words:?}");
+        }
+    }
+    // OUT is a file: standard output is not needed
+    let done = vmd_under("exec >&-").current_dir(&folder.0).args(["export", "take", "-o", "out"]).output().unwrap();
+    assert_eq!((status(&done), err(&done)), (0, String::new()));
+    assert_eq!(fs::read(folder.join("out")).unwrap(), bones(3, 1));
+}
+
+/// A standard input that is closed, or open for writing only, is no empty file.
+#[test]
+fn a_standard_input_that_gives_nothing() {
+    for settings in ["exec <&-", "exec 0> /dev/null"] {
+        let done = vmd_under(settings).args(["list", "-"]).output().unwrap();
+        assert_eq!((status(&done), out(&done)), (2, String::new()), "{settings}");
+        assert!(err(&done).starts_with("vmd: standard input: cannot read the file: "), "{}", err(&done));
+    }
+    let done = vmd_under("exec < /dev/null").args(["list", "-"]).output().unwrap();
+    assert_eq!((status(&done), out(&done)), (1, "refused 1\n".into()));
+}
+
+/// The names that the system has for standard output and other descriptors.
+#[test]
+fn outputs_that_are_descriptors() {
+    let folder = Folder::new("descriptors");
+    let take = bones(3, 1);
+    folder.file("take", &take[..take.len() - 20]);
+    let run = |settings: &str, to: &str| {
+        vmd_under(settings).current_dir(&folder.0).args(["export", "take", "-o", to]).output().unwrap()
+    };
+    let done = run(":", "/dev/stdout");
+    assert_eq!((status(&done), err(&done), done.stdout), (0, String::new(), take.clone()));
+    assert_eq!(status(&run("exec > out", "/dev/stdout")), 0);
+    assert_eq!(fs::read(folder.join("out")).unwrap(), take);
+    for (settings, to, sentence) in [
+        (":", "/dev/fd/1", "cannot replace the file: it is no regular file"),
+        ("exec 3> gone; rm gone", "/dev/fd/3", "cannot replace the file: it has no name"),
+    ] {
+        let done = run(settings, to);
+        assert_eq!((status(&done), out(&done)), (2, String::new()));
+        assert_eq!(err(&done), format!("vmd: {to}: {sentence}\n"));
+    }
+    assert_eq!(folder.names(), ["out", "take"]);
+}
