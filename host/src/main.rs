@@ -2,7 +2,10 @@
 #![deny(unsafe_code)]
 
 #[allow(unsafe_code)]
+mod memory;
+#[allow(unsafe_code)]
 mod streams;
+mod tree;
 mod words;
 
 use std::env;
@@ -12,6 +15,7 @@ use std::fs::File;
 use std::io::{self, ErrorKind, Read, Write};
 use std::process::ExitCode;
 
+use tree::Tree;
 use vmd::{Error, FileId, Refusal, Take, shown};
 use words::Words;
 
@@ -34,6 +38,9 @@ anything fails, not at all.
 
 Exit status: 0; 1 where a take is refused; 2 for bad usage, or where a file cannot be read or written.
 ";
+
+/// The bytes before a take's first section.
+const HEADER: u64 = 50;
 
 /// Why the command did not do what it was asked.
 enum Failure {
@@ -185,14 +192,19 @@ fn export(words: &Words) -> Result<u8, Failure> {
 
 fn join(words: &Words) -> Result<u8, Failure> {
     let to = words.output()?;
-    let [first, _, ..] = words.files[..] else {
+    let [_, .., last] = words.files[..] else {
         return Err(Failure::Usage("two files at least are needed, FIRST and SECOND".into()));
     };
+    // Both are freed with the join. One that fails is told with the last take that is in it.
+    let join =
+        |last| move |first: Vec<u8>, second: Vec<u8>| vmd::join(&first, &second).map_err(|error| Failure::of(last, error));
+    memory::give_back_what_is_freed();
     let mut sources = Sources::default();
-    let mut joined = sources.read_accepted(first)?;
-    for name in &words.files[1..] {
-        joined = vmd::join(&joined, &sources.read_accepted(name)?).map_err(|error| Failure::of(name, error))?;
+    let mut tree = Tree::new();
+    for name in &words.files {
+        tree.add(sources.read_accepted(name)?, join(name))?;
     }
+    let joined = tree.all(join(last))?.expect("there are two takes at least");
     sources.write(to, &joined)
 }
 
@@ -219,7 +231,8 @@ impl Sources {
         })
     }
 
-    /// Memory for a file whose length is known is asked for at once.
+    /// A whole file, or the header of one that is refused for it: the answer is the same. Memory for a file whose length is
+    /// known is asked for at once.
     fn read_whole(&mut self, name: &OsStr) -> io::Result<Vec<u8>> {
         let mut file = if name == "-" { streams::standard_input() } else { File::open(name) }?;
         let found = file.metadata()?;
@@ -229,8 +242,12 @@ impl Sources {
         self.files.push(FileId::of(&found));
         self.unknown |= !found.is_file();
         let mut bytes = Vec::new();
+        Read::by_ref(&mut file).take(HEADER).read_to_end(&mut bytes)?;
+        if vmd::export_size(&bytes) == Err(Refusal::MagicDiffers) {
+            return Ok(bytes);
+        }
         let len = usize::try_from(found.len()).map_err(|_| ErrorKind::OutOfMemory)?;
-        bytes.try_reserve_exact(len).map_err(|_| ErrorKind::OutOfMemory)?;
+        bytes.try_reserve_exact(len.saturating_sub(bytes.len())).map_err(|_| ErrorKind::OutOfMemory)?;
         file.read_to_end(&mut bytes)?;
         Ok(bytes)
     }

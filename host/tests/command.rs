@@ -8,7 +8,7 @@ use std::os::unix::ffi::OsStrExt;
 use std::os::unix::process::CommandExt;
 use std::process::{Command, Output, Stdio};
 
-use common::{Folder, bones, counts, err, out, start, status, vmd, vmd_under};
+use common::{Folder, bones, counts, err, out, start, status, vmd, vmd_under, vmd_with};
 
 /// The output of a command that reads these bytes on its standard input.
 fn given(command: &mut Command, input: &[u8]) -> Output {
@@ -96,6 +96,31 @@ fn exports_and_joins() {
     assert_eq!((status(&done), done.stdout), (0, one.clone()));
     let done = given(vmd().arg("join").arg(&paths[0]).arg("-").arg(&paths[2]).args(["-o", "-"]), &two);
     assert_eq!((status(&done), done.stdout), (0, all));
+}
+
+/// Many are joined in a tree, and the bytes are those of a join from left to right.
+#[test]
+fn joins_many() {
+    let folder = Folder::new("many");
+    let takes: Vec<_> = (0..11).map(|n| bones(n + 1, n)).collect();
+    let paths: Vec<_> = takes.iter().enumerate().map(|(n, take)| folder.file(&n.to_string(), take)).collect();
+    let to = folder.join("out");
+    let mut joined = takes[0].clone();
+    for n in 2..=takes.len() {
+        joined = vmd::join(&joined, &takes[n - 1]).unwrap();
+        let done = vmd().arg("join").args(&paths[..n]).arg("-o").arg(&to).output().unwrap();
+        assert_eq!((status(&done), err(&done)), (0, String::new()));
+        assert!(fs::read(&to).unwrap() == joined, "{n} takes");
+    }
+    // The first that is refused is named, wherever it stands, and nothing is written.
+    let (early, none) = (folder.file("early", &start()), folder.file("none", &[0x41; 60]));
+    for place in 0..paths.len() {
+        let mut paths = paths.clone();
+        paths.splice(place..place, [early.clone(), none.clone()]);
+        let done = vmd().arg("join").args(&paths).arg("-o").arg(&to).output().unwrap();
+        assert_eq!(err(&done), format!("vmd: {}: refused 1: the file ends early\n", early.display()));
+        assert!(status(&done) == 1 && fs::read(&to).unwrap() == joined);
+    }
 }
 
 /// OUT may be one of the takes that are read.
@@ -254,20 +279,46 @@ fn names_that_are_no_line() {
 #[test]
 fn inputs_that_cannot_be_read() {
     let folder = Folder::new("unreadable");
-    let huge = folder.join("huge");
-    fs::File::create(&huge).unwrap().set_len(1 << 40).unwrap();
+    let huge = folder.file("huge", &start());
+    fs::File::options().write(true).open(&huge).unwrap().set_len(1 << 40).unwrap();
+    let endless = format!("ulimit -v 300000; {{ cat '{}'; cat /dev/zero; }} |", folder.file("start", &start()).display());
     let cases = [
         (vmd(), folder.join("none"), "No such file"),
         (vmd(), folder.0.clone(), "it is a folder"),
         (vmd(), folder.join("none/none"), "No such file"),
         (vmd_under("ulimit -v 300000"), huge, "no memory"),
-        (vmd_under("ulimit -v 300000"), "/dev/zero".into(), "no memory"),
+        (vmd_with(&endless), "-".into(), "no memory"),
     ];
     for (mut command, path, sentence) in cases {
         let done = command.arg("list").arg(&path).output().unwrap();
         assert_eq!((status(&done), out(&done)), (2, String::new()), "{path:?}: {done:?}");
         assert!(err(&done).contains(sentence) && err(&done).lines().count() == 1, "{}", err(&done));
     }
+}
+
+/// A file that is no take is not read to its end: its first 50 bytes have the answer.
+#[test]
+fn no_take_by_its_first_bytes() {
+    let folder = Folder::new("first");
+    let none = folder.join("none");
+    fs::File::create(&none).unwrap().set_len(1 << 40).unwrap();
+    let good = folder.file("good", &bones(1, 1));
+    let to = folder.file("out", b"old");
+    for (from, shown) in
+        [(none.to_str().unwrap(), none.to_str().unwrap()), ("-", "standard input"), ("/dev/zero", "/dev/zero")]
+    {
+        let run = |words: &[&OsStr]| vmd_under("ulimit -v 300000; exec < /dev/zero").args(words).output().unwrap();
+        let listed = run(&["list".as_ref(), from.as_ref()]);
+        assert_eq!((status(&listed), out(&listed)), (1, "refused 2\n".into()), "{from}: {}", err(&listed));
+        let sentence = format!("vmd: {shown}: refused 2: the file is not a VMD take\n");
+        assert_eq!(err(&listed), sentence);
+        let named: [&OsStr; 2] = ["-o".as_ref(), to.as_ref()];
+        for words in [&["export".as_ref(), from.as_ref()][..], &["join".as_ref(), good.as_ref(), from.as_ref()]] {
+            let done = run(&[words, &named].concat());
+            assert_eq!((status(&done), err(&done)), (1, sentence.clone()));
+        }
+    }
+    assert_eq!(fs::read(&to).unwrap(), b"old");
 }
 
 /// No memory for what is to be written: the take itself can be read.
@@ -280,6 +331,19 @@ fn a_join_that_does_not_fit_memory() {
     assert_eq!(status(&done), 2, "{done:?}");
     assert!(err(&done).contains("no memory"), "{}", err(&done));
     assert_eq!(fs::read(&to).unwrap(), b"old");
+}
+
+/// A join of many takes no more memory than one from left to right, which at its end has all that was read and the output:
+/// nothing that was freed on the way is held.
+#[test]
+fn a_join_of_many_fits_twice_its_length() {
+    let folder = Folder::new("peak");
+    let record = &bones(1, 1)[54..165];
+    let take = [counts(&[66_000]), record.repeat(66_000), vec![0; 20]].concat(); // 7 MiB
+    let takes = [(); 7].map(|()| folder.file("take", &take));
+    let settings = format!("ulimit -v {}", (2 * takes.len() * take.len() + (16 << 20)) >> 10);
+    let done = vmd_under(&settings).arg("join").args(&takes).args(["-o", "-"]).stdout(Stdio::null()).output().unwrap();
+    assert_eq!((status(&done), err(&done)), (0, String::new()));
 }
 
 #[test]

@@ -10,7 +10,7 @@ use std::process::{Command, Output, Stdio};
 use std::thread;
 use std::time::{Duration, Instant, SystemTime};
 
-use common::{Folder, attributes, bones, err, status, vmd, vmd_under};
+use common::{Folder, attributes, bones, err, status, vmd, vmd_under, vmd_with};
 use vmd::FileId;
 
 /// A folder with the canonical takes `new` and `old`, and `take`, which is the old one and is to be saved over.
@@ -685,11 +685,8 @@ fn a_take_that_was_read_is_not_removed() {
         }
     }
     // What comes through a pipe may have been any file.
-    let done = Command::new("sh")
-        .current_dir(&saving.folder.0)
-        .args(["-c", "cat .vmd-save-0.tmp | \"$0\" export - -o take", env!("CARGO_BIN_EXE_vmd")])
-        .output()
-        .unwrap();
+    let mut piped = vmd_with("cat .vmd-save-0.tmp |");
+    let done = piped.current_dir(&saving.folder.0).args(["export", "-", "-o", "take"]).output().unwrap();
     assert_eq!((status(&done), err(&done)), (0, String::new()));
     assert!(saving.is_new() && fs::read(&left).unwrap() == saving.new);
     // A take that was not read in its place: the one that was left is removed.

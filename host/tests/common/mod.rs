@@ -77,8 +77,13 @@ pub fn vmd() -> Command {
 
 /// The command under a shell's settings, as `ulimit -f 1`.
 pub fn vmd_under(settings: &str) -> Command {
+    vmd_with(&format!("{settings}; exec"))
+}
+
+/// The command after some words of a shell, as `cat take |`.
+pub fn vmd_with(words: &str) -> Command {
     let mut shell = Command::new("sh");
-    shell.args(["-c", &format!("{settings}; exec \"$@\""), "sh", env!("CARGO_BIN_EXE_vmd")]);
+    shell.args(["-c", &format!("{words} \"$@\""), "sh", env!("CARGO_BIN_EXE_vmd")]);
     shell
 }
 
