@@ -33,10 +33,14 @@ IN, FIRST, SECOND and FILE may be '-' for standard input, one of them at most, a
 -o OUT, unless after '--': there every word is a file, one that begins with '-' too, as in 'vmd join -o OUT -- FIRST
 SECOND..'. In a name that is shown, control characters and '\\' are written as in a string of C or Rust.
 
-OUT may be one of the takes that are read, and a link: then the file it leads to is replaced. OUT is replaced whole or, where
-anything fails, not at all.
+OUT may be one of the takes that are read, and a link: then the file it leads to is replaced. It is replaced whole or, where
+anything fails, not at all. It keeps its mode, access list and user's attributes, and its owner and group where the system
+allows it. A take that is read-only is not replaced, by root neither. A file .vmd-save-N.tmp was left by a command that was
+killed; the next one that saves in its folder removes it, unless it is OUT, was read, or something came through a pipe.
 
-Exit status: 0; 1 where a take is refused; 2 for bad usage, or where a file cannot be read or written.
+Exit status: 0; 1 where a take is refused; 2 for bad usage, or where a file cannot be read or written: a file OUT is as it
+was; 3 where OUT is the new file, and only its folder could not be flushed: after a loss of power the old one may be back.
+With status 3 a join into one of its own takes is not to be repeated.
 ";
 
 /// The bytes before a take's first section.

@@ -1,6 +1,7 @@
 //! The memory of a join.
 use std::ffi::c_int;
 
+// SAFETY: so the C library's header declares it; it takes any numbers.
 unsafe extern "C" {
     safe fn mallopt(parameter: c_int, value: c_int) -> c_int;
 }

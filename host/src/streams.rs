@@ -26,6 +26,7 @@ extern "C" fn look() {
 
 fn is_closed(descriptor: c_int) -> bool {
     const F_GETFD: c_int = 1;
+    // SAFETY: so the system's header declares it.
     unsafe extern "C" {
         fn fcntl(descriptor: c_int, command: c_int, ...) -> c_int;
     }

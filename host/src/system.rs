@@ -5,6 +5,7 @@ use std::fs::File;
 use std::io;
 use std::os::fd::AsRawFd;
 
+// SAFETY: so the system's headers declare them. The first two take any numbers.
 unsafe extern "C" {
     safe fn geteuid() -> u32;
     safe fn posix_fadvise(file: c_int, from: i64, len: i64, advice: c_int) -> c_int;

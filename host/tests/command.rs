@@ -187,7 +187,13 @@ fn usage() {
     }
     let help = vmd().arg("--help").output().unwrap();
     assert_eq!((status(&help), err(&help)), (0, String::new()));
-    for word in ["vmd list FILE..", "vmd export IN -o OUT", "vmd join FIRST SECOND.. -o OUT", "Exit status"] {
+    for word in [
+        "vmd list FILE..",
+        "vmd export IN -o OUT",
+        "vmd join FIRST SECOND.. -o OUT",
+        "Exit status",
+        "3 where OUT is the new file",
+    ] {
         assert!(out(&help).contains(word));
     }
     let version = vmd().arg("--version").output().unwrap();
