@@ -58,7 +58,7 @@ pub struct FileId {
 }
 
 impl FileId {
-    /// The file that this is known of.
+    /// Of the file that has this metadata.
     pub fn of(found: &Metadata) -> Self {
         FileId { device: found.dev(), number: found.ino() }
     }
@@ -67,11 +67,13 @@ impl FileId {
 /// Puts these bytes in the place of the file, whole or not at all.
 ///
 /// They are written to a new file in the target's folder, flushed to the disk, read back and compared; only then does the
-/// new file take the target's name, in one step, and the folder is flushed. The system is told to forget what it holds of
-/// the new file in memory, so that what is read back comes from the disk, or from the disk's own memory. Where the file
-/// system is in memory, or another machine's, it need not. Where anything fails the target is as it was;
+/// new file take the target's name, in one step, and the folder is flushed. Where anything fails the target is as it was;
 /// where the process is ended, at any point, it is the old file or the new one. Where the flush of the folder fails, the new
 /// file has the name already; that is the one error after which the target is the new file ([`SaveError::replaced`]).
+///
+/// Before the new file is read back the system is told to forget what it holds of it in memory, so that the bytes come from
+/// the disk. They may still come from the disk's own memory; and where the file system is in memory, or on another machine,
+/// from there.
 ///
 /// The target keeps its mode, its access list (POSIX) and the attributes that users set (`user.`), and its owner and group,
 /// each where the system lets the caller set it. Where the group cannot be kept, the group and all others are left with what
@@ -90,8 +92,7 @@ pub fn save(path: impl AsRef<Path>, bytes: &[u8]) -> Result<(), SaveError> {
 }
 
 /// Saves as [`save`] does, and once that is done removes what saves that were ended have left in the target's folder: files
-/// named `.vmd-save-N.tmp` that are not locked. Neither the target is removed nor a file that the caller has read: it names
-/// all of those.
+/// named `.vmd-save-N.tmp` that are not locked. Neither the target is removed nor a file that the caller says it has read.
 pub fn save_and_clear(path: impl AsRef<Path>, bytes: &[u8], read: &[FileId]) -> Result<(), SaveError> {
     let saved = replace(path.as_ref(), bytes)?;
     clear(folder_of(&saved.path), read); // the file that was saved is locked still
@@ -115,11 +116,12 @@ fn replace(path: &Path, bytes: &[u8]) -> Result<NewFile, SaveError> {
     new.take_name(&target).doing("replace the file", path)?;
     match flushed.sync_all() {
         // a file system that does not know of flushing folders
-        Err(error) if matches!(error.kind(), ErrorKind::InvalidInput | ErrorKind::Unsupported) => Ok(new),
+        Err(error) if matches!(error.kind(), ErrorKind::InvalidInput | ErrorKind::Unsupported) => {}
         done => done
             .doing("flush its folder, and it is the new file already", path)
-            .map_or_else(|error| Err(SaveError { replaced: true, ..error }), |()| Ok(new)),
+            .map_err(|error| SaveError { replaced: true, ..error })?,
     }
+    Ok(new)
 }
 
 fn folder_of(target: &Path) -> &Path {
