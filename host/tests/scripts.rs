@@ -11,12 +11,12 @@ use std::time::{Duration, SystemTime};
 
 use common::{Folder, err, out, status};
 
-/// Proves two crates, and between them waits, for ten seconds at most, for a file `go`.
+/// Proves two crates, and between them waits, for a minute at most, for a file `go`.
 const RT: &str = r#"#!/bin/sh
 echo "$*" >> "$ROOT/calls"
 echo 'rt: vmd_format proved (3 s)'
 echo 'logic=proved: what the prover says besides'
-for i in $(seq 1000); do [ -e "$ROOT/go" ] && break; sleep 0.01; done
+for i in $(seq 6000); do [ -e "$ROOT/go" ] && break; sleep 0.01; done
 echo 'a term that does not fit' >&2
 [ ! -e "$ROOT/fail" ] || { echo 'rt: vmd_c NOT PROVED (exit 1, 2 s)'; exit 1; }
 echo 'rt: vmd_c proved (2 s)'
