@@ -31,7 +31,7 @@ vmd: VMD takes (MikuMikuDance motion files)
 
 IN, FIRST, SECOND and FILE may be '-' for standard input, one of them at most, and OUT for standard output. No file follows
 -o OUT, unless after '--': there every word is a file, one that begins with '-' too, as in 'vmd join -o OUT -- FIRST
-SECOND..'. In a name that is shown, control characters and '\\' are written as in a string of C or Rust.
+SECOND..'. In a name that is shown, control characters and '\\' are written as in a string of Rust.
 
 OUT may be one of the takes that are read, and a link: then the file it leads to is replaced. It is replaced whole or, where
 anything fails, not at all. It keeps its mode, access list and user's attributes, and its owner and group where the system

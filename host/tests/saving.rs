@@ -177,7 +177,7 @@ fn each_system_call_fails() {
                 Some(0) => {
                     assert!(new, "{call:?} failed, and the old take is there without a word");
                     assert!(
-                        !["write", "fchmod", "fsync", "read", "rename"].contains(&call.0.as_str()),
+                        !["write", "flistxattr", "fchmod", "fsync", "read", "rename"].contains(&call.0.as_str()),
                         "{call:?} failed unseen"
                     );
                 }
@@ -453,6 +453,35 @@ fn no_access_list_comes_from_the_folder() {
     fs::remove_file(saving.take()).unwrap();
     saving.expect_next_save_works();
     assert_eq!(attributes::get(&saving.take(), ACCESS_LIST), Some(access_list(6, 6, 6, 6, 0)));
+}
+
+/// Where a list or an attribute cannot be read or set, the take is not replaced.
+#[test]
+fn attributes_that_cannot_be_kept() {
+    let saving = Saving::of("unkept", 10);
+    let set = attributes::set(&saving.take(), ACCESS_LIST, &access_list(6, 6, 4, 6, 0))
+        .and_then(|()| attributes::set(&saving.take(), "user.dancer", b"leap"));
+    if let Err(error) = set {
+        return println!("not tried: access lists and attributes: {error}");
+    }
+    let Some(mut calls) = system_calls(&saving) else { return };
+    calls.retain(|(name, _)| name.ends_with("xattr"));
+    for call in &calls {
+        saving.put_back();
+        let done = saving.run(&mut injected(call, "error=EPERM"));
+        assert_eq!(status(&done), 2, "{call:?}");
+        let (told, cause) = (err(&done), ": Operation not permitted (os error 1)\n");
+        assert!(
+            ["cannot keep its access list", "cannot keep its attributes"]
+                .iter()
+                .any(|what| told.ends_with(&format!("{what}{cause}"))),
+            "{told}"
+        );
+        assert!(!saving.is_new());
+        assert_eq!(saving.folder.names(), ["new", "take"]);
+    }
+    let set = calls.iter().filter(|(name, _)| name == "fsetxattr").count();
+    assert_eq!(set, 2, "{calls:?}");
 }
 
 /// The group's entry in an access list would be another group's.
