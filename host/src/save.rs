@@ -82,7 +82,7 @@ impl FileId {
 ///
 /// A target that is read-only is not replaced, by root neither, nor one that the caller may not write to. A symbolic link is
 /// followed: the file that it leads to is replaced, and the link stays; one of another's in a folder where all may make
-/// links, as /tmp, is not followed. Other hard links to the old file keep its old contents.
+/// links (a sticky one) is not followed. Other hard links to the old file keep its old contents.
 ///
 /// The new file is named `.vmd-save-0.tmp`, or with the next number that is free; it is locked while it is written. One that
 /// is not locked was left by a process that was ended. It stays there, since the caller may have read it:
@@ -143,9 +143,9 @@ fn linked_to(path: &Path) -> Result<PathBuf, SaveError> {
     Err(io::Error::other("too many symbolic links")).doing("find the file", path)
 }
 
-/// In a folder where all may make files and nobody may remove another's, as /tmp, Linux can be set to follow only the
-/// caller's own links and the folder's owner's (protected_symlinks). Here links are read and not followed by the system, so
-/// that rule is kept here, and everywhere.
+/// In a sticky folder, where all may make files and nobody may remove another's, Linux can be set to follow only the caller's
+/// own links and the folder's owner's (protected_symlinks). Here links are read and not followed by the system, so that rule
+/// is kept here, whatever the system is set to.
 fn may_follow(link: &Path) -> io::Result<()> {
     let folder = fs::metadata(folder_of(link))?;
     let owner = fs::symlink_metadata(link)?.uid();

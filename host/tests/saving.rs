@@ -544,7 +544,7 @@ fn a_link_is_followed_and_stays() {
     assert!(err(&done).contains("too many symbolic links"), "{}", err(&done));
 }
 
-/// Where everyone may make links, as in /tmp, one of another's is not followed, whatever the system is set to.
+/// In a sticky folder, where all may make links, one of another's is not followed, whatever the system is set to.
 #[test]
 fn a_link_of_anothers_in_a_folder_of_all() {
     let saving = Saving::of("sticky", 10);
