@@ -1,7 +1,7 @@
 #!/usr/bin/env bash
-# Builds the Rust crate and the command of host/ over the static library and runs their tests: the calls, the command, saving
-# over a take while it is killed or the disk is full. Then holds the command's lines to those of vmd_list. Run it from the
-# repository's root once 'rt ci' has built vmd_list.
+# Builds the Rust crate and the command of host/ over the static library and runs their tests: the calls, the command and its
+# scripts, saving over a take while it is killed, the disk is full or loses what was written. Then holds the command's lines
+# to those of vmd_list. Run it from the repository's root once 'rt ci' has built vmd_list.
 set -euo pipefail
 
 fail() { printf 'host: %s\n' "$*" >&2; exit 1; }

@@ -148,7 +148,7 @@ fn main() -> Result<(), Box<dyn Error>> {
     let folder = Path::new(env!("CARGO_MANIFEST_DIR")).join("../examples");
     std::fs::create_dir_all(&folder)?;
     for (name, file) in takes()? {
-        vmd::save(&folder.join(name), &file)?;
+        vmd::save(folder.join(name), &file)?;
     }
     Ok(())
 }

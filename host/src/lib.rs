@@ -32,13 +32,18 @@
 mod c;
 mod parts;
 mod refusal;
+mod rights;
 mod save;
+mod shown;
+#[allow(unsafe_code)]
+mod system;
 mod take;
 
 pub use c::{export_into, export_size, first_fault, join_into, join_size};
 pub use parts::{NameTable, Parts};
 pub use refusal::{Error, Refusal};
-pub use save::{SaveError, save};
+pub use save::{FileId, SaveError, save, save_and_clear};
+pub use shown::shown;
 pub use take::{
     BoneFrame, CameraFrame, IkState, LightFrame, MorphFrame, PropertyFrame, SelfShadowFrame, Take, export, join,
     joined_model,

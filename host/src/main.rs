@@ -1,32 +1,50 @@
 //! The command `vmd`: lists, saves and joins takes.
-#![forbid(unsafe_code)]
+#![deny(unsafe_code)]
+
+#[allow(unsafe_code)]
+mod memory;
+#[allow(unsafe_code)]
+mod streams;
+mod tree;
+mod words;
 
 use std::env;
 use std::ffi::{OsStr, OsString};
 use std::fmt;
 use std::fs::File;
 use std::io::{self, ErrorKind, Read, Write};
-use std::path::Path;
 use std::process::ExitCode;
 
-use vmd::{Error, Refusal, Take};
+use tree::Tree;
+use vmd::{Error, FileId, Refusal, Take, shown};
+use words::Words;
 
 const HELP: &str = "\
 vmd: VMD takes (MikuMikuDance motion files)
 
-  vmd list FILE..              a line for each take: bones, morphs, cameras, lights, self-shadows, properties, IK states,
-                               largest frame, export length; or 'refused' and the number of the refusal. With several
-                               files each line has the file's name and ': ' before it
-  vmd export IN OUT            saves a take in canonical form
-  vmd join FIRST SECOND.. OUT  joins takes from left to right: in every section the records of each, one after another
+  vmd list FILE..                 a line for each take: bones, morphs, cameras, lights, self-shadows, properties, IK states,
+                                  largest frame, export length; or 'refused' and the number of the refusal. With several
+                                  files each line has the file's name and ': ' before it
+  vmd export IN -o OUT            saves a take in canonical form
+  vmd join FIRST SECOND.. -o OUT  joins takes from left to right: in every section the records of each, one after another
   vmd --help, vmd --version
 
-IN, FIRST, SECOND and FILE may be '-' for standard input, one of them at most, and OUT for standard output. A file whose
-name begins with '-' is written ./-NAME. OUT may be one of the takes that are read, and a link: then the file it leads to is
-replaced. OUT is replaced whole or, where anything fails, not at all.
+IN, FIRST, SECOND and FILE may be '-' for standard input, one of them at most, and OUT for standard output. No file follows
+-o OUT, unless after '--': there every word is a file, one that begins with '-' too, as in 'vmd join -o OUT -- FIRST
+SECOND..'. In a name that is shown, control characters and '\\' are written as in a string of Rust.
 
-Exit status: 0; 1 where a take is refused; 2 for bad usage, or where a file cannot be read or written.
+OUT may be one of the takes that are read, and a link: then the file it leads to is replaced. It is replaced whole or, where
+anything fails, not at all. It keeps its mode, access list and user's attributes, and its owner and group where the system
+allows it. A take that is read-only is not replaced, by root neither. A file .vmd-save-N.tmp was left by a command that was
+killed; the next one that saves in its folder removes it, unless it is OUT, was read, or something came through a pipe.
+
+Exit status: 0; 1 where a take is refused; 2 for bad usage, or where a file cannot be read or written: a file OUT is as it
+was; 3 where OUT is the new file, and only its folder could not be flushed: after a loss of power the old one may be back.
+With status 3 a join into one of its own takes is not to be repeated.
 ";
+
+/// The bytes before a take's first section.
+const HEADER: u64 = 50;
 
 /// Why the command did not do what it was asked.
 enum Failure {
@@ -34,6 +52,8 @@ enum Failure {
     Refused(String, Refusal),
     /// A file that cannot be read or written, or too little memory.
     Io(String),
+    /// The output is the new file, and its folder could not be flushed.
+    Unflushed(String),
     Usage(String),
 }
 
@@ -42,13 +62,22 @@ impl Failure {
         match self {
             Failure::Refused(..) => 1,
             Failure::Io(_) | Failure::Usage(_) => 2,
+            Failure::Unflushed(_) => 3,
         }
     }
 
     fn of(name: &OsStr, error: Error) -> Self {
         match error {
-            Error::Refused(refusal) => Failure::Refused(shown(name), refusal),
-            Error::NoMemory(_) => Failure::Io(format!("{}: {error}", shown(name))),
+            Error::Refused(refusal) => Failure::Refused(shown_input(name), refusal),
+            Error::NoMemory(_) => Failure::Io(format!("{}: {error}", shown_input(name))),
+        }
+    }
+
+    /// With the command's name before what is wrong with its words.
+    fn in_command(self, command: &OsStr) -> Self {
+        match self {
+            Failure::Usage(text) => Failure::Usage(format!("{}: {text}", shown(command))),
+            other => other,
         }
     }
 
@@ -61,11 +90,18 @@ impl Failure {
     }
 }
 
+/// What is wrong with a command's words.
+impl From<String> for Failure {
+    fn from(wrong: String) -> Self {
+        Failure::Usage(wrong)
+    }
+}
+
 impl fmt::Display for Failure {
     fn fmt(&self, f: &mut fmt::Formatter<'_>) -> fmt::Result {
         match self {
             Failure::Refused(name, refusal) => write!(f, "{name}: {}", Error::Refused(*refusal)),
-            Failure::Io(text) => f.write_str(text),
+            Failure::Io(text) | Failure::Unflushed(text) => f.write_str(text),
             Failure::Usage(text) => write!(f, "{text}; 'vmd --help' tells more"),
         }
     }
@@ -89,39 +125,39 @@ fn run(words: &[OsString]) -> Result<u8, Failure> {
     let Some((command, words)) = words.split_first() else {
         return Err(Failure::Usage("no command is given".into()));
     };
-    match command.to_str() {
-        Some("--help" | "-h" | "help") => print(HELP),
-        Some("--version") => print(concat!("vmd ", env!("CARGO_PKG_VERSION"), "\n")),
-        Some("list") => list(files(words)?),
-        Some("export") => export(files(words)?),
-        Some("join") => join(files(words)?),
-        _ => Err(Failure::Usage(format!("there is no command '{}'", command.display()))),
+    let run = match command.to_str() {
+        Some("--help" | "-h" | "help") => return print(HELP),
+        Some("--version") => return print(concat!("vmd ", env!("CARGO_PKG_VERSION"), "\n")),
+        Some("list") => list,
+        Some("export") => export,
+        Some("join") => join,
+        _ => return Err(Failure::Usage(format!("there is no command '{}'", shown(command)))),
+    };
+    match Words::of(words) {
+        Ok(Some(words)) => run(&words),
+        Ok(None) => print(HELP),
+        Err(wrong) => Err(wrong.into()),
     }
+    .map_err(|failure| failure.in_command(command))
 }
 
-/// The words of a command, which are all files.
-fn files(words: &[OsString]) -> Result<&[OsString], Failure> {
-    match words.iter().find(|word| word.as_encoded_bytes().starts_with(b"-") && *word != "-") {
-        Some(option) => Err(Failure::Usage(format!("there is no option '{}'", option.display()))),
-        None => Ok(words),
-    }
-}
-
-fn list(names: &[OsString]) -> Result<u8, Failure> {
+fn list(words: &Words) -> Result<u8, Failure> {
+    words.no_output()?;
+    let names = &words.files[..];
     if names.is_empty() {
-        return Err(Failure::Usage("list: no file is given".into()));
+        return Err(Failure::Usage("no file is given".into()));
     }
-    standard_input_once(names)?;
     let mut status = 0;
     for name in names {
-        let (line, failure) = match read(name).and_then(|file| line(&file).map_err(|error| Failure::of(name, error))) {
-            Ok(line) => (Some(line), None),
-            Err(failure) => (failure.line(), Some(failure)),
-        };
+        let (line, failure) =
+            match Sources::default().read(name).and_then(|file| line(&file).map_err(|error| Failure::of(name, error))) {
+                Ok(line) => (Some(line), None),
+                Err(failure) => (failure.line(), Some(failure)),
+            };
         if let Some(line) = line {
             match names {
                 [_] => print(&format!("{line}\n"))?,
-                _ => print(&format!("{}: {line}\n", shown(name)))?,
+                _ => print(&format!("{}: {line}\n", shown_input(name)))?,
             };
         }
         if let Some(failure) = failure {
@@ -148,70 +184,96 @@ fn line(file: &[u8]) -> Result<String, Error> {
     ))
 }
 
-fn export(names: &[OsString]) -> Result<u8, Failure> {
-    let [from, to] = names else {
-        return Err(Failure::Usage("export: two files are needed, IN and OUT".into()));
+fn export(words: &Words) -> Result<u8, Failure> {
+    let to = words.output()?;
+    let [from] = words.files[..] else {
+        return Err(Failure::Usage("one file is needed, IN".into()));
     };
-    let saved = vmd::export(&read(from)?).map_err(|error| Failure::of(from, error))?;
-    write(to, &saved)
+    let mut sources = Sources::default();
+    let saved = vmd::export(&sources.read(from)?).map_err(|error| Failure::of(from, error))?;
+    sources.write(to, &saved)
 }
 
-fn join(names: &[OsString]) -> Result<u8, Failure> {
-    let [first, _, .., to] = names else {
-        return Err(Failure::Usage("join: at least three files are needed, FIRST, SECOND and OUT".into()));
+fn join(words: &Words) -> Result<u8, Failure> {
+    let to = words.output()?;
+    let [_, .., last] = words.files[..] else {
+        return Err(Failure::Usage("two files at least are needed, FIRST and SECOND".into()));
     };
-    let takes = &names[..names.len() - 1];
-    standard_input_once(takes)?;
-    let mut joined = read_accepted(first)?;
-    for name in &takes[1..] {
-        joined = vmd::join(&joined, &read_accepted(name)?).map_err(|error| Failure::of(name, error))?;
+    // Both are freed with the join. One that fails is told with the last take that is in it.
+    let join =
+        |last| move |first: Vec<u8>, second: Vec<u8>| vmd::join(&first, &second).map_err(|error| Failure::of(last, error));
+    memory::give_back_what_is_freed();
+    let mut sources = Sources::default();
+    let mut tree = Tree::new();
+    for name in &words.files {
+        tree.add(sources.read_accepted(name)?, join(name))?;
     }
-    write(to, &joined)
+    let joined = tree.all(join(last))?.expect("there are two takes at least");
+    sources.write(to, &joined)
 }
 
 // ---- files
 
-fn standard_input_once(names: &[OsString]) -> Result<(), Failure> {
-    match names.iter().filter(|name| *name == "-").count() {
-        0 | 1 => Ok(()),
-        _ => Err(Failure::Usage("standard input can be read once only".into())),
-    }
+fn shown_input(name: &OsStr) -> String {
+    if name == "-" { "standard input".into() } else { shown(name) }
 }
 
-fn shown(name: &OsStr) -> String {
-    if name == "-" { "standard input".into() } else { name.display().to_string() }
+/// The files that were read, none of which is removed when another is written.
+#[derive(Default)]
+struct Sources {
+    files: Vec<FileId>,
+    /// Something was read that is no file, as a pipe: what came through it may have been any file.
+    unknown: bool,
 }
 
-/// A whole file. Memory for one whose length is known is asked for at once.
-fn read(name: &OsStr) -> Result<Vec<u8>, Failure> {
-    let mut bytes = Vec::new();
-    let done = if name == "-" {
-        io::stdin().lock().read_to_end(&mut bytes)
-    } else {
-        File::open(name).and_then(|mut file| {
-            let found = file.metadata()?;
-            if found.is_dir() {
-                return Err(io::Error::other("it is a folder"));
-            }
-            let len = usize::try_from(found.len()).map_err(|_| ErrorKind::OutOfMemory)?;
-            bytes.try_reserve_exact(len).map_err(|_| ErrorKind::OutOfMemory)?;
-            file.read_to_end(&mut bytes)
+impl Sources {
+    fn read(&mut self, name: &OsStr) -> Result<Vec<u8>, Failure> {
+        let said = |text| Failure::Io(format!("{}: {text}", shown_input(name)));
+        self.read_whole(name).map_err(|error| match error.kind() {
+            ErrorKind::OutOfMemory => said("there is no memory to read it".into()),
+            _ => said(format!("cannot read the file: {error}")),
         })
-    };
-    match done {
-        Ok(_) => Ok(bytes),
-        Err(error) if error.kind() == ErrorKind::OutOfMemory => {
-            Err(Failure::Io(format!("{}: there is no memory to read it", shown(name))))
-        }
-        Err(error) => Err(Failure::Io(format!("{}: cannot read the file: {error}", shown(name)))),
     }
-}
 
-/// A file that is accepted, so that a refusal names the file it is of.
-fn read_accepted(name: &OsStr) -> Result<Vec<u8>, Failure> {
-    let file = read(name)?;
-    vmd::export_size(&file).map_err(|refusal| Failure::of(name, refusal.into()))?;
-    Ok(file)
+    /// A whole file, or the header of one that is refused for it: the answer is the same. Memory for a file whose length is
+    /// known is asked for at once.
+    fn read_whole(&mut self, name: &OsStr) -> io::Result<Vec<u8>> {
+        let mut file = if name == "-" { streams::standard_input() } else { File::open(name) }?;
+        let found = file.metadata()?;
+        if found.is_dir() {
+            return Err(io::Error::other("it is a folder"));
+        }
+        self.files.push(FileId::of(&found));
+        self.unknown |= !found.is_file();
+        let mut bytes = Vec::new();
+        Read::by_ref(&mut file).take(HEADER).read_to_end(&mut bytes)?;
+        if vmd::export_size(&bytes) == Err(Refusal::MagicDiffers) {
+            return Ok(bytes);
+        }
+        let len = usize::try_from(found.len()).map_err(|_| ErrorKind::OutOfMemory)?;
+        bytes.try_reserve_exact(len.saturating_sub(bytes.len())).map_err(|_| ErrorKind::OutOfMemory)?;
+        file.read_to_end(&mut bytes)?;
+        Ok(bytes)
+    }
+
+    /// A file that is accepted, so that a refusal names the file it is of.
+    fn read_accepted(&mut self, name: &OsStr) -> Result<Vec<u8>, Failure> {
+        let file = self.read(name)?;
+        vmd::export_size(&file).map_err(|refusal| Failure::of(name, refusal.into()))?;
+        Ok(file)
+    }
+
+    fn write(&self, name: &OsStr, bytes: &[u8]) -> Result<u8, Failure> {
+        if name == "-" || name == "/dev/stdout" {
+            return to_standard_output(bytes);
+        }
+        let saved = if self.unknown { vmd::save(name, bytes) } else { vmd::save_and_clear(name, bytes, &self.files) };
+        match saved {
+            Ok(()) => Ok(0),
+            Err(error) if error.replaced() => Err(Failure::Unflushed(error.to_string())),
+            Err(error) => Err(Failure::Io(error.to_string())),
+        }
+    }
 }
 
 fn print(text: &str) -> Result<u8, Failure> {
@@ -219,17 +281,8 @@ fn print(text: &str) -> Result<u8, Failure> {
 }
 
 fn to_standard_output(bytes: &[u8]) -> Result<u8, Failure> {
-    let mut out = io::stdout().lock();
-    out.write_all(bytes)
-        .and_then(|()| out.flush())
+    streams::standard_output()
+        .and_then(|mut out| out.write_all(bytes))
         .map_err(|error| Failure::Io(format!("cannot write to standard output: {error}")))?;
-    Ok(0)
-}
-
-fn write(name: &OsStr, bytes: &[u8]) -> Result<u8, Failure> {
-    if name == "-" {
-        return to_standard_output(bytes);
-    }
-    vmd::save(Path::new(name), bytes).map_err(|error| Failure::Io(error.to_string()))?;
     Ok(0)
 }

@@ -1,12 +1,14 @@
 //! The command: what it prints, where it writes, and its exit statuses.
 mod common;
 
+use std::ffi::OsStr;
 use std::fs;
 use std::io::Write;
+use std::os::unix::ffi::OsStrExt;
 use std::os::unix::process::CommandExt;
 use std::process::{Command, Output, Stdio};
 
-use common::{Folder, bones, counts, err, out, start, status, vmd, vmd_under};
+use common::{Folder, bones, counts, err, out, start, status, vmd, vmd_under, vmd_with};
 
 /// The output of a command that reads these bytes on its standard input.
 fn given(command: &mut Command, input: &[u8]) -> Output {
@@ -75,25 +77,50 @@ fn exports_and_joins() {
     let (one, two, three) = (bones(1, 1), bones(2, 2), bones(3, 3));
     let paths = [folder.file("one", &one[..165]), folder.file("two", &two), folder.file("three", &three)];
     let to = folder.join("out");
-    let done = vmd().arg("export").args([&paths[0], &to]).output().unwrap();
+    let done = vmd().arg("export").arg(&paths[0]).arg("-o").arg(&to).output().unwrap();
     assert_eq!((status(&done), out(&done), err(&done)), (0, String::new(), String::new()));
     assert_eq!(fs::read(&to).unwrap(), one);
 
-    let done = vmd().arg("join").args([&paths[0], &paths[1], &to]).output().unwrap();
+    let done = vmd().arg("join").args(&paths[..2]).arg("-o").arg(&to).output().unwrap();
     assert_eq!((status(&done), err(&done)), (0, String::new()));
     assert_eq!(fs::read(&to).unwrap(), vmd::join(&one, &two).unwrap());
 
-    let done = vmd().arg("join").args(&paths).arg(&to).output().unwrap();
+    let done = vmd().arg("join").args(&paths).arg("-o").arg(&to).output().unwrap();
     assert_eq!((status(&done), err(&done)), (0, String::new()));
     let all = vmd::join(&vmd::join(&one, &two).unwrap(), &three).unwrap();
     assert_eq!(fs::read(&to).unwrap(), all);
     assert_eq!(folder.names(), ["one", "out", "three", "two"]);
 
     // standard input and output
-    let done = given(vmd().args(["export", "-", "-"]), &one[..165]);
+    let done = given(vmd().args(["export", "-", "-o", "-"]), &one[..165]);
     assert_eq!((status(&done), done.stdout), (0, one.clone()));
-    let done = given(vmd().arg("join").arg(&paths[0]).args(["-"]).arg(&paths[2]).arg("-"), &two);
+    let done = given(vmd().arg("join").arg(&paths[0]).arg("-").arg(&paths[2]).args(["-o", "-"]), &two);
     assert_eq!((status(&done), done.stdout), (0, all));
+}
+
+/// Many are joined in a tree, and the bytes are those of a join from left to right.
+#[test]
+fn joins_many() {
+    let folder = Folder::new("many");
+    let takes: Vec<_> = (0..11).map(|n| bones(n + 1, n)).collect();
+    let paths: Vec<_> = takes.iter().enumerate().map(|(n, take)| folder.file(&n.to_string(), take)).collect();
+    let to = folder.join("out");
+    let mut joined = takes[0].clone();
+    for n in 2..=takes.len() {
+        joined = vmd::join(&joined, &takes[n - 1]).unwrap();
+        let done = vmd().arg("join").args(&paths[..n]).arg("-o").arg(&to).output().unwrap();
+        assert_eq!((status(&done), err(&done)), (0, String::new()));
+        assert!(fs::read(&to).unwrap() == joined, "{n} takes");
+    }
+    // The first that is refused is named, wherever it stands, and nothing is written.
+    let (early, none) = (folder.file("early", &start()), folder.file("none", &[0x41; 60]));
+    for place in 0..paths.len() {
+        let mut paths = paths.clone();
+        paths.splice(place..place, [early.clone(), none.clone()]);
+        let done = vmd().arg("join").args(&paths).arg("-o").arg(&to).output().unwrap();
+        assert_eq!(err(&done), format!("vmd: {}: refused 1: the file ends early\n", early.display()));
+        assert!(status(&done) == 1 && fs::read(&to).unwrap() == joined);
+    }
 }
 
 /// OUT may be one of the takes that are read.
@@ -102,9 +129,9 @@ fn saves_over_what_it_read() {
     let folder = Folder::new("over");
     let take = bones(40, 5);
     let path = folder.file("take", &take[..take.len() - 20]);
-    assert_eq!(status(&vmd().arg("export").args([&path, &path]).output().unwrap()), 0);
+    assert_eq!(status(&vmd().arg("export").arg(&path).arg("-o").arg(&path).output().unwrap()), 0);
     assert_eq!(fs::read(&path).unwrap(), take);
-    assert_eq!(status(&vmd().arg("join").args([&path, &path, &path]).output().unwrap()), 0);
+    assert_eq!(status(&vmd().arg("join").args([&path, &path]).arg("-o").arg(&path).output().unwrap()), 0);
     assert_eq!(fs::read(&path).unwrap(), vmd::join(&take, &take).unwrap());
 }
 
@@ -113,13 +140,13 @@ fn refused_takes_are_named_and_nothing_is_written() {
     let folder = Folder::new("refused");
     let (good, bad) = (folder.file("good", &bones(1, 1)), folder.file("bad", &[0x41; 60]));
     let to = folder.file("out", b"old");
-    for words in [vec!["export", "bad", "out"], vec!["join", "good", "bad", "out"], vec!["join", "bad", "good", "out"]] {
-        let done = vmd().current_dir(&folder.0).args(&words).output().unwrap();
+    for words in [&["export", "bad"][..], &["join", "good", "bad"], &["join", "bad", "good"]] {
+        let done = vmd().current_dir(&folder.0).args(words).args(["-o", "out"]).output().unwrap();
         assert_eq!(err(&done), "vmd: bad: refused 2: the file is not a VMD take\n", "{words:?}");
         assert_eq!((status(&done), out(&done)), (1, String::new()));
         assert_eq!(fs::read(&to).unwrap(), b"old");
     }
-    let done = given(vmd().args(["join"]).arg(&good).args(["-", "-"]), &start());
+    let done = given(vmd().arg("join").arg(&good).args(["-", "-o", "-"]), &start());
     assert_eq!((status(&done), out(&done)), (1, String::new()));
     assert_eq!(err(&done), "vmd: standard input: refused 1: the file ends early\n");
     assert_eq!(fs::read(&bad).unwrap(), [0x41; 60]);
@@ -133,13 +160,26 @@ fn usage() {
         &["list"],
         &["list", "--all"],
         &["list", "-", "-"],
+        &["list", ""],
+        &["list", "a", "-o", "b"],
         &["export"],
         &["export", "a"],
-        &["export", "a", "b", "c"],
-        &["export", "-x", "b"],
-        &["join", "a"],
+        &["export", "a", "b"],
+        &["export", "-o", "b"],
+        &["export", "a", "b", "-o", "c"],
+        &["export", "-x", "-o", "b"],
+        &["export", "a", "-o"],
+        &["export", "a", "-o", ""],
+        &["export", "", "-o", "b"],
+        &["export", "a", "-o", "b", "-o", "c"],
+        &["export", "a", "-o", "--", "b"],
+        &["export", "a", "-o", "-x"],
+        &["export", "-o", "b", "a"],
+        &["join", "a", "-o", "b"],
         &["join", "a", "b"],
-        &["join", "-", "-", "b"],
+        &["join", "a", "b", "--", "-o", "c"],
+        &["join", "-o", "a", "b", "c"],
+        &["join", "-", "-", "-o", "b"],
     ] {
         let done = vmd().args(words).output().unwrap();
         assert_eq!((status(&done), out(&done)), (2, String::new()), "{words:?}");
@@ -147,25 +187,113 @@ fn usage() {
     }
     let help = vmd().arg("--help").output().unwrap();
     assert_eq!((status(&help), err(&help)), (0, String::new()));
-    for word in ["vmd list FILE..", "vmd export IN OUT", "vmd join FIRST SECOND.. OUT", "Exit status"] {
+    for word in [
+        "vmd list FILE..",
+        "vmd export IN -o OUT",
+        "vmd join FIRST SECOND.. -o OUT",
+        "Exit status",
+        "3 where OUT is the new file",
+    ] {
         assert!(out(&help).contains(word));
     }
     let version = vmd().arg("--version").output().unwrap();
     assert_eq!((status(&version), out(&version)), (0, format!("vmd {}\n", env!("CARGO_PKG_VERSION"))));
 }
 
+/// `vmd join *.vmd`, where the last take was once taken for OUT.
+#[test]
+fn a_forgotten_output_touches_nothing() {
+    let folder = Folder::new("forgotten");
+    let takes = [1, 2, 3].map(|n| bones(n, n));
+    let names = ["1.vmd", "2.vmd", "3.vmd"];
+    names.iter().zip(&takes).for_each(|(name, take)| drop(folder.file(name, take)));
+    // the last: the shell's list stands where OUT was forgotten, and its first take must not be OUT
+    for words in [&["export"][..], &["join"], &["join", "-o"]] {
+        let takes = if words[0] == "export" { &names[..2] } else { &names };
+        let done = vmd().current_dir(&folder.0).args(words).args(takes).output().unwrap();
+        assert_eq!((status(&done), out(&done)), (2, String::new()), "{words:?}");
+        assert!(err(&done).contains("-o OUT") && err(&done).lines().count() == 1, "{words:?}: {}", err(&done));
+    }
+    assert_eq!(folder.names(), names);
+    assert!(names.iter().zip(&takes).all(|(name, take)| fs::read(folder.join(name)).unwrap() == *take));
+}
+
+#[test]
+fn help_after_a_command() {
+    let help = out(&vmd().arg("--help").output().unwrap());
+    for words in [&["list", "--help"][..], &["list", "-h"], &["export", "a", "--help"], &["join", "--help", "-o", "a"]] {
+        let done = vmd().args(words).output().unwrap();
+        assert_eq!((status(&done), out(&done), err(&done)), (0, help.clone(), String::new()), "{words:?}");
+    }
+}
+
+/// After `--` every word is a file; `-` is standard input there too.
+#[test]
+fn files_that_look_like_options() {
+    let folder = Folder::new("dashes");
+    let (one, two) = (bones(1, 1), bones(2, 2));
+    folder.file("-o", &one);
+    folder.file("--help", &two);
+    let run = |words: &[&str]| given(vmd().current_dir(&folder.0).args(words), &two);
+    let listed = run(&["list", "--", "-o", "--help", "-"]);
+    let lines = "-o: 1 0 0 0 0 0 0 0 185\n--help: 2 0 0 0 0 0 0 1 296\nstandard input: 2 0 0 0 0 0 0 1 296\n";
+    assert_eq!((status(&listed), out(&listed)), (0, lines.into()));
+    let done = run(&["join", "-o", "out", "--", "-o", "--help"]);
+    assert_eq!((status(&done), err(&done)), (0, String::new()));
+    assert_eq!(fs::read(folder.join("out")).unwrap(), vmd::join(&one, &two).unwrap());
+    let done = run(&["export", "./-o", "-o", "./--help"]);
+    assert_eq!((status(&done), err(&done)), (0, String::new()));
+    assert_eq!(fs::read(folder.join("--help")).unwrap(), one);
+}
+
+/// A name is shown in one line, and no two names alike.
+#[test]
+fn names_that_are_no_line() {
+    let folder = Folder::new("names");
+    let take = bones(1, 1);
+    let line = "1 0 0 0 0 0 0 0 185";
+    let names: [(&[u8], &str); 5] = [
+        (b"a\nb", r"a\nb"),
+        (br"a\nb", r"a\\nb"),
+        (b"\x1b[2J", r"\u{1b}[2J"),
+        (b"\x83_\xff", r"\x83_\xff"),
+        ("右足".as_bytes(), "右足"),
+    ];
+    for (name, shown) in names {
+        let name = OsStr::from_bytes(name);
+        fs::write(folder.0.join(name), &take).unwrap();
+        let listed = vmd().current_dir(&folder.0).arg("list").args([name, name]).output().unwrap();
+        assert_eq!((status(&listed), out(&listed)), (0, format!("{shown}: {line}\n{shown}: {line}\n")));
+        fs::write(folder.0.join(name), &take[..60]).unwrap();
+        let listed = vmd().current_dir(&folder.0).arg("list").arg(name).output().unwrap();
+        assert_eq!(err(&listed), format!("vmd: {shown}: refused 1: the file ends early\n"));
+        fs::remove_file(folder.0.join(name)).unwrap();
+        fs::create_dir(folder.0.join(name)).unwrap();
+        let from = folder.file("take", &take);
+        let done = vmd().current_dir(&folder.0).arg("export").arg(&from).arg("-o").arg(name).output().unwrap();
+        assert_eq!(err(&done), format!("vmd: {shown}: cannot replace the file: it is a folder\n"));
+        let done = vmd().current_dir(&folder.0).arg("list").arg(name).output().unwrap();
+        assert_eq!(err(&done), format!("vmd: {shown}: cannot read the file: it is a folder\n"));
+    }
+    let done = vmd().args(["a\nb"]).output().unwrap();
+    assert!(err(&done).starts_with(r"vmd: there is no command 'a\nb'"), "{}", err(&done));
+    let done = vmd().args(["list", "-a\nb"]).output().unwrap();
+    assert!(err(&done).starts_with(r"vmd: list: there is no option '-a\nb'"), "{}", err(&done));
+}
+
 /// What cannot be read: one sentence, and status 2.
 #[test]
 fn inputs_that_cannot_be_read() {
     let folder = Folder::new("unreadable");
-    let huge = folder.join("huge");
-    fs::File::create(&huge).unwrap().set_len(1 << 40).unwrap();
+    let huge = folder.file("huge", &start());
+    fs::File::options().write(true).open(&huge).unwrap().set_len(1 << 40).unwrap();
+    let endless = format!("ulimit -v 300000; {{ cat '{}'; cat /dev/zero; }} |", folder.file("start", &start()).display());
     let cases = [
         (vmd(), folder.join("none"), "No such file"),
         (vmd(), folder.0.clone(), "it is a folder"),
         (vmd(), folder.join("none/none"), "No such file"),
         (vmd_under("ulimit -v 300000"), huge, "no memory"),
-        (vmd_under("ulimit -v 300000"), "/dev/zero".into(), "no memory"),
+        (vmd_with(&endless), "-".into(), "no memory"),
     ];
     for (mut command, path, sentence) in cases {
         let done = command.arg("list").arg(&path).output().unwrap();
@@ -174,16 +302,54 @@ fn inputs_that_cannot_be_read() {
     }
 }
 
+/// A file that is no take is not read to its end: its first 50 bytes have the answer.
+#[test]
+fn no_take_by_its_first_bytes() {
+    let folder = Folder::new("first");
+    let none = folder.join("none");
+    fs::File::create(&none).unwrap().set_len(1 << 40).unwrap();
+    let good = folder.file("good", &bones(1, 1));
+    let to = folder.file("out", b"old");
+    for (from, shown) in
+        [(none.to_str().unwrap(), none.to_str().unwrap()), ("-", "standard input"), ("/dev/zero", "/dev/zero")]
+    {
+        let run = |words: &[&OsStr]| vmd_under("ulimit -v 300000; exec < /dev/zero").args(words).output().unwrap();
+        let listed = run(&["list".as_ref(), from.as_ref()]);
+        assert_eq!((status(&listed), out(&listed)), (1, "refused 2\n".into()), "{from}: {}", err(&listed));
+        let sentence = format!("vmd: {shown}: refused 2: the file is not a VMD take\n");
+        assert_eq!(err(&listed), sentence);
+        let named: [&OsStr; 2] = ["-o".as_ref(), to.as_ref()];
+        for words in [&["export".as_ref(), from.as_ref()][..], &["join".as_ref(), good.as_ref(), from.as_ref()]] {
+            let done = run(&[words, &named].concat());
+            assert_eq!((status(&done), err(&done)), (1, sentence.clone()));
+        }
+    }
+    assert_eq!(fs::read(&to).unwrap(), b"old");
+}
+
 /// No memory for what is to be written: the take itself can be read.
 #[test]
 fn a_join_that_does_not_fit_memory() {
     let folder = Folder::new("memory");
     let path = folder.file("take", &bones(100_000, 1));
     let to = folder.file("out", b"old");
-    let done = vmd_under("ulimit -v 45000").arg("join").args([&path, &path, &to]).output().unwrap();
+    let done = vmd_under("ulimit -v 45000").arg("join").args([&path, &path]).arg("-o").arg(&to).output().unwrap();
     assert_eq!(status(&done), 2, "{done:?}");
     assert!(err(&done).contains("no memory"), "{}", err(&done));
     assert_eq!(fs::read(&to).unwrap(), b"old");
+}
+
+/// A join of many takes no more memory than one from left to right, which at its end has all that was read and the output:
+/// nothing that was freed on the way is held.
+#[test]
+fn a_join_of_many_fits_twice_its_length() {
+    let folder = Folder::new("peak");
+    let record = &bones(1, 1)[54..165];
+    let take = [counts(&[66_000]), record.repeat(66_000), vec![0; 20]].concat(); // 7 MiB
+    let takes = [(); 7].map(|()| folder.file("take", &take));
+    let settings = format!("ulimit -v {}", (2 * takes.len() * take.len() + (16 << 20)) >> 10);
+    let done = vmd_under(&settings).arg("join").args(&takes).args(["-o", "-"]).stdout(Stdio::null()).output().unwrap();
+    assert_eq!((status(&done), err(&done)), (0, String::new()));
 }
 
 #[test]
@@ -210,15 +376,84 @@ fn an_output_that_cannot_be_written() {
     let folder = Folder::new("unwritable");
     let path = folder.file("take", &bones(5000, 1));
     let full = fs::File::create("/dev/full").unwrap();
-    let done = vmd().args(["export"]).arg(&path).arg("-").stdout(full).output().unwrap();
+    let done = vmd().arg("export").arg(&path).args(["-o", "-"]).stdout(full).output().unwrap();
     assert_eq!(status(&done), 2);
     assert!(err(&done).starts_with("vmd: cannot write to standard output: No space left"), "{}", err(&done));
 
     // a reader that goes away
     let mut child =
-        vmd().args(["export"]).arg(&path).arg("-").stdout(Stdio::piped()).stderr(Stdio::piped()).spawn().unwrap();
+        vmd().arg("export").arg(&path).args(["-o", "-"]).stdout(Stdio::piped()).stderr(Stdio::piped()).spawn().unwrap();
     drop(child.stdout.take());
     let done = child.wait_with_output().unwrap();
     assert_eq!(status(&done), 2);
     assert!(err(&done).contains("Broken pipe"), "{}", err(&done));
+}
+
+/// A standard output that is closed, or open for reading only: nothing is written, and that is told. Rust's own takes both for
+/// outputs that take everything.
+#[test]
+fn a_standard_output_that_takes_nothing() {
+    let folder = Folder::new("closed");
+    folder.file("take", &bones(3, 1));
+    for words in [
+        &["export", "take", "-o", "-"][..],
+        &["export", "take", "-o", "/dev/stdout"],
+        &["join", "take", "take", "-o", "-"],
+        &["list", "take"],
+        &["list", "--help"],
+        &["--help"],
+        &["--version"],
+    ] {
+        for settings in ["exec >&-", "exec 1< /dev/null", "exec 1< take"] {
+            let done = vmd_under(settings).current_dir(&folder.0).args(words).output().unwrap();
+            assert_eq!(status(&done), 2, "{settings}: {words:?}");
+            assert!(err(&done).starts_with("vmd: cannot write to standard output: "), "{}", err(&done));
+            assert_eq!(err(&done).lines().count(), 1);
+        }
+        // /dev/null takes everything, however it was opened
+        for settings in ["exec > /dev/null", "exec 1<> /dev/null"] {
+            let done = vmd_under(settings).current_dir(&folder.0).args(words).output().unwrap();
+            assert_eq!((status(&done), err(&done)), (0, String::new()), "{settings}: {words:?}");
+        }
+    }
+    // OUT is a file: standard output is not needed
+    let done = vmd_under("exec >&-").current_dir(&folder.0).args(["export", "take", "-o", "out"]).output().unwrap();
+    assert_eq!((status(&done), err(&done)), (0, String::new()));
+    assert_eq!(fs::read(folder.join("out")).unwrap(), bones(3, 1));
+}
+
+/// A standard input that is closed, or open for writing only, is no empty file.
+#[test]
+fn a_standard_input_that_gives_nothing() {
+    for settings in ["exec <&-", "exec 0> /dev/null"] {
+        let done = vmd_under(settings).args(["list", "-"]).output().unwrap();
+        assert_eq!((status(&done), out(&done)), (2, String::new()), "{settings}");
+        assert!(err(&done).starts_with("vmd: standard input: cannot read the file: "), "{}", err(&done));
+    }
+    let done = vmd_under("exec < /dev/null").args(["list", "-"]).output().unwrap();
+    assert_eq!((status(&done), out(&done)), (1, "refused 1\n".into()));
+}
+
+/// The names that the system has for standard output and other descriptors.
+#[test]
+fn outputs_that_are_descriptors() {
+    let folder = Folder::new("descriptors");
+    let take = bones(3, 1);
+    folder.file("take", &take[..take.len() - 20]);
+    let run = |settings: &str, to: &str| {
+        vmd_under(settings).current_dir(&folder.0).args(["export", "take", "-o", to]).output().unwrap()
+    };
+    let done = run(":", "/dev/stdout");
+    assert_eq!((status(&done), err(&done), done.stdout), (0, String::new(), take.clone()));
+    assert_eq!(status(&run("exec > out", "/dev/stdout")), 0);
+    assert_eq!(fs::read(folder.join("out")).unwrap(), take);
+    for (settings, to, sentence) in [
+        (":", "/dev/fd/1", "cannot replace the file: it is no regular file"),
+        ("exec 3> gone; rm gone", "/dev/fd/3", "cannot replace the file: it has no name"),
+    ] {
+        let done = run(settings, to);
+        assert_eq!((status(&done), out(&done)), (2, String::new()));
+        assert_eq!(err(&done), format!("vmd: {to}: {sentence}\n"));
+    }
+    assert_eq!(folder.names(), ["out", "take"]);
 }

@@ -77,8 +77,13 @@ pub fn vmd() -> Command {
 
 /// The command under a shell's settings, as `ulimit -f 1`.
 pub fn vmd_under(settings: &str) -> Command {
+    vmd_with(&format!("{settings}; exec"))
+}
+
+/// The command after some words of a shell, as `cat take |`.
+pub fn vmd_with(words: &str) -> Command {
     let mut shell = Command::new("sh");
-    shell.args(["-c", &format!("{settings}; exec \"$@\""), "sh", env!("CARGO_BIN_EXE_vmd")]);
+    shell.args(["-c", &format!("{words} \"$@\""), "sh", env!("CARGO_BIN_EXE_vmd")]);
     shell
 }
 
@@ -92,4 +97,40 @@ pub fn out(output: &Output) -> String {
 
 pub fn err(output: &Output) -> String {
     String::from_utf8(output.stderr.clone()).unwrap()
+}
+
+/// Extended attributes of files, by the system's calls.
+pub mod attributes {
+    use std::ffi::{CString, c_char, c_int, c_void};
+    use std::io;
+    use std::os::unix::ffi::OsStrExt;
+    use std::path::Path;
+
+    unsafe extern "C" {
+        fn setxattr(path: *const c_char, name: *const c_char, value: *const c_void, size: usize, flags: c_int) -> c_int;
+        fn getxattr(path: *const c_char, name: *const c_char, value: *mut c_void, size: usize) -> isize;
+    }
+
+    fn c_strings(path: &Path, name: &str) -> (CString, CString) {
+        (CString::new(path.as_os_str().as_bytes()).unwrap(), CString::new(name).unwrap())
+    }
+
+    pub fn set(path: &Path, name: &str, value: &[u8]) -> io::Result<()> {
+        let (path, name) = c_strings(path, name);
+        // SAFETY: both strings end with a zero, and the value has so many bytes.
+        match unsafe { setxattr(path.as_ptr(), name.as_ptr(), value.as_ptr().cast(), value.len(), 0) } {
+            0 => Ok(()),
+            _ => Err(io::Error::last_os_error()),
+        }
+    }
+
+    /// None where the file has none of that name.
+    pub fn get(path: &Path, name: &str) -> Option<Vec<u8>> {
+        let (path, name) = c_strings(path, name);
+        let mut value = vec![0; 1 << 16];
+        // SAFETY: both strings end with a zero, and the value has room for so many bytes.
+        let len = unsafe { getxattr(path.as_ptr(), name.as_ptr(), value.as_mut_ptr().cast(), value.len()) };
+        value.truncate(usize::try_from(len).ok()?);
+        Some(value)
+    }
 }
