@@ -73,35 +73,28 @@ fn refusals_of_the_crate() -> BTreeMap<u32, String> {
     by_number(Refusal::ALL.iter().map(|refusal| (refusal.number(), as_in_c(&format!("{refusal:?}")))))
 }
 
-/// The Rattle source that has the enum, in whichever crate it stands.
-fn rattle_source() -> String {
-    let mut found = Vec::new();
-    for folder in fs::read_dir(repository().join("crates")).unwrap() {
-        for file in fs::read_dir(folder.unwrap().path().join("src")).into_iter().flatten() {
-            let text = read(file.unwrap().path());
-            if text.contains("enum VmdRefusal {") {
-                found.push(text);
-            }
-        }
-    }
-    assert_eq!(found.len(), 1, "one source in crates/ has the enum VmdRefusal");
-    found.remove(0)
+/// The file below crates/ that has this text, in whichever crate it stands, without its comments.
+fn rattle_file(folder: &str, has: &str, comment: &str) -> String {
+    let crates = fs::read_dir(repository().join("crates")).unwrap().map(|entry| entry.unwrap().path().join(folder));
+    let files = crates.filter_map(|folder| fs::read_dir(folder).ok()).flatten().map(|entry| entry.unwrap().path());
+    let mut found: Vec<_> = files.filter(|path| path.is_file()).map(read).filter(|text| text.contains(has)).collect();
+    assert_eq!(found.len(), 1, "files of crates/*/{folder} with '{has}'");
+    found.remove(0).lines().map(|line| line.split(comment).next().unwrap().to_owned() + "\n").collect()
 }
 
 fn refusals_of_the_rattle() -> BTreeMap<u32, String> {
-    let source = rattle_source();
-    let arms = between(between(&source, "impl VmdRefusal {", "\n}"), "match self {", "}");
-    let table = numbered(arms.split(',').map(|arm| arm.trim().trim_start_matches("VmdRefusal::")), "=>");
+    let source = rattle_file("src", "enum VmdRefusal {", "//");
+    let arms = between(between(&source, "impl VmdRefusal {", "\n}"), "match self {", "}").split(',');
+    let table = numbered(arms.map(|arm| arm.trim().trim_start_matches("VmdRefusal::")), "=>");
     let variants = between(&source, "enum VmdRefusal {", "}").split(',').map(str::trim).filter(|name| !name.is_empty());
     assert!(table.values().eq(variants), "the variants are not in the order of their numbers");
     by_number(table.into_iter().map(|(number, name)| (number, as_in_c(&name))))
 }
 
 fn refusals_of_the_definition() -> BTreeMap<u32, String> {
-    let source = read(repository().join("crates/vmd_format/specs/Refusal.antt"));
-    let table =
-        numbered(source.lines().filter_map(|line| line.strip_prefix("number ")).filter(|line| !line.starts_with(':')), "=");
-    by_number(table.into_iter().map(|(number, name)| (number, as_in_c(&name))))
+    let source = rattle_file("specs", "data Refusal :", "--");
+    let equations = source.lines().filter_map(|line| line.strip_prefix("number "));
+    by_number(numbered(equations, "=").into_iter().map(|(number, name)| (number, as_in_c(&name))))
 }
 
 /// Each number has the same name in all four, and none is missing. The Rattle may say more of a name (`FileEndsEarly` for
