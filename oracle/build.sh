@@ -20,7 +20,7 @@ install_missing() {
     for package in librust-encoding-rs-dev librust-serde-dev librust-serde-derive-dev librust-thiserror-dev; do
         [ "$(dpkg-query -W -f '${db:Status-Status}' "$package" 2>/dev/null)" = installed ] || missing+=("$package")
     done
-    # The original needs Rust 1.65; Debian 12's rustc is older, its rustc-web is not.
+    # The original needs Rust 1.65, the comparison 1.82; Debian 12's rustc is older, its rustc-web is not.
     command -v cargo >/dev/null || missing+=(cargo-web rustc-web)
     [ ${#missing[@]} -eq 0 ] && return
     apt-get update -q
