@@ -5,8 +5,8 @@
 #
 # SOURCES is the folder with the original's files (crates/mmd-anim-format/.., crates/mmd-anim-runtime/..), by default
 # ../shared/docs/src beside the repository. Missing Debian packages are installed with apt-get. The program that compares
-# links the proved library, VMD_LIBRARY_FOLDER/libvmd_c.a, by default that of target/staticlib, which 'rt staticlib vmd_c'
-# makes where it is missing.
+# links the proved library as the crate does: the one that VMD_LIB names, else that of target/staticlib, built where it is
+# missing or old.
 set -euo pipefail
 root=$(cd "$(dirname "$0")/.." && pwd)
 what=${1:-}
@@ -20,15 +20,15 @@ install_missing() {
     for package in librust-encoding-rs-dev librust-serde-dev librust-serde-derive-dev librust-thiserror-dev; do
         [ "$(dpkg-query -W -f '${db:Status-Status}' "$package" 2>/dev/null)" = installed ] || missing+=("$package")
     done
-    # The original needs Rust 1.65; Debian 12's rustc is older, its rustc-web is not.
+    # The original needs Rust 1.65, the comparison 1.82; Debian 12's rustc is older, its rustc-web is not.
     command -v cargo >/dev/null || missing+=(cargo-web rustc-web)
     [ ${#missing[@]} -eq 0 ] && return
     apt-get update -q
     apt-get install -y -q --no-install-recommends "${missing[@]}"
 }
 
-# The original's files and the stand-ins, laid out as in the original's repository. Modification times are kept, so that
-# cargo builds again only what changed.
+# The original's files and the stand-ins, laid out as in the original's repository, and the crate's declaration of the C
+# interface. Modification times are kept, so that cargo builds again only what changed.
 lay_out() {
     local file
     [ -d "$sources" ] || fail "no folder $sources: give the folder with the original's files"
@@ -37,6 +37,7 @@ lay_out() {
     cp -p "$root/oracle/Cargo.toml" "$workspace/"
     cp -p "$root/oracle/cargo-config.toml" "$workspace/.cargo/config.toml"
     cp -rp "$root/oracle/crates" "$workspace/"
+    cp -p "$root/host/src/header.rs" "$workspace/crates/comparison/src/"
     while read -r _ file; do
         cp -p "$sources/$file" "$workspace/$file"
     done < "$root/oracle/SHA256SUMS"
@@ -44,8 +45,8 @@ lay_out() {
 }
 
 find_library() {
-    export VMD_LIBRARY_FOLDER=${VMD_LIBRARY_FOLDER:-$root/target/staticlib}
-    [ -e "$VMD_LIBRARY_FOLDER/libvmd_c.a" ] || (cd "$root" && rt staticlib vmd_c)
+    VMD_LIB=$("$root/host/library") || fail "there is no library"
+    export VMD_LIB
 }
 
 case $what in

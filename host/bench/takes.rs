@@ -100,6 +100,7 @@ impl Random {
 
 /// Parts that own their columns.
 #[derive(Default)]
+#[repr(C)]
 pub struct Columns {
     pub name_bytes: Vec<u8>,
     pub name_ends: Vec<u32>,
@@ -115,6 +116,7 @@ pub struct Columns {
 }
 
 /// A take as a file, as two halves to be joined, and as parts.
+#[repr(C)]
 pub struct Material {
     pub file: Vec<u8>,
     pub first: Vec<u8>,
@@ -128,6 +130,18 @@ impl Material {
         let half = self::columns(kind.counts(size.div_ceil(2)), names);
         let first = file(&half, names);
         Material { file: file(&columns, names), second: first.clone(), first, columns }
+    }
+
+    /// An output that is long enough for every call and every copy.
+    pub fn output(&self) -> Vec<u8> {
+        let written = [
+            vmd::export_size(&self.file).unwrap(),
+            vmd::join_size(&self.first, &self.second).unwrap(),
+            self.parts().size().unwrap(),
+            self.file.len() as u64,
+            (self.first.len() + self.second.len()) as u64,
+        ];
+        vec![1; written.into_iter().max().unwrap() as usize]
     }
 
     /// The cameras alone.

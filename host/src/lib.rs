@@ -26,10 +26,12 @@
 //! # Ok::<(), vmd::Error>(())
 //! ```
 #![deny(unsafe_code)]
-#![warn(missing_docs)]
+#![warn(missing_docs, clippy::undocumented_unsafe_blocks)]
 
 #[allow(unsafe_code)]
 mod c;
+#[allow(unsafe_code)]
+mod header;
 mod parts;
 mod refusal;
 mod rights;

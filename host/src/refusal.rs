@@ -1,79 +1,79 @@
 use std::fmt;
 
-/// Why a call was turned down: the rows of the format's table, each with its number.
-#[derive(Clone, Copy, Debug, PartialEq, Eq, Hash)]
-#[repr(u32)]
-pub enum Refusal {
+/// The refusals, told once: each one's name, number, and sentence. The names and numbers are those of the header's
+/// `enum vmd_refusal`.
+macro_rules! refusals {
+    ($($(#[$doc:meta])* $name:ident = $number:literal, $sentence:literal;)*) => {
+        /// Why a call was turned down: the rows of the format's table, each with its number.
+        #[derive(Clone, Copy, Debug, PartialEq, Eq, Hash)]
+        #[non_exhaustive]
+        pub enum Refusal {
+            $($(#[$doc])* $name,)*
+            /// A number that this crate has no name for: the library is newer than the crate.
+            #[non_exhaustive]
+            Other(u32),
+        }
+
+        impl Refusal {
+            /// All that have names, in the order of their numbers.
+            pub const ALL: &'static [Refusal] = &[$(Refusal::$name),*];
+
+            /// The number of the refusal, as the C interface has it.
+            pub fn number(self) -> u32 {
+                match self {
+                    $(Refusal::$name => $number,)*
+                    Refusal::Other(number) => number,
+                }
+            }
+
+            pub(crate) fn of(number: u32) -> Refusal {
+                match number {
+                    $($number => Refusal::$name,)*
+                    _ => Refusal::Other(number),
+                }
+            }
+        }
+
+        impl fmt::Display for Refusal {
+            fn fmt(&self, f: &mut fmt::Formatter<'_>) -> fmt::Result {
+                match self {
+                    $(Refusal::$name => f.write_str($sentence),)*
+                    Refusal::Other(number) => {
+                        write!(f, "the library's refusal {number}, which this crate has no name for")
+                    }
+                }
+            }
+        }
+    };
+}
+
+refusals! {
     /// The file ends early.
-    EndsEarly = 1,
+    EndsEarly = 1, "the file ends early";
     /// The first 26 bytes are not the magic.
-    MagicDiffers = 2,
+    MagicDiffers = 2, "the file is not a VMD take";
     /// Fewer scratch places than property frames. [`Take`](crate::Take) lends enough.
-    ScratchTooShort = 3,
+    ScratchTooShort = 3, "the scratch has fewer places than the file has property frames";
     /// A record or IK number at or above the count, or its place outside the file. [`Take`](crate::Take) gives `None`.
-    Outside = 4,
+    Outside = 4, "the file has no such record";
     /// A name table's ends are wrong, record bytes are no whole records, or property frames are cut or have bytes over.
-    PartsNotWhole = 5,
+    PartsNotWhole = 5, "a name table, the record bytes or the property frames are not whole";
     /// A model name over 20 bytes, a table name over 15, or a zero byte in one.
-    NameUnfit = 6,
+    NameUnfit = 6, "a name is too long or has a zero byte";
     /// Name bytes that are not good Shift_JIS.
-    NameNotGood = 7,
+    NameNotGood = 7, "a name's bytes are not good Shift_JIS";
     /// A camera, light, bone or morph float that is not finite.
-    NotFinite = 8,
+    NotFinite = 8, "a float of a camera, light, bone or morph is not finite";
     /// A self-shadow distance that is not finite, or a mode above 2.
-    SelfShadowUnfit = 9,
+    SelfShadowUnfit = 9, "a self-shadow's distance is not finite, or its mode is above 2";
     /// Bone or morph column lengths that disagree.
-    ColumnsDisagree = 10,
+    ColumnsDisagree = 10, "the lengths of the bone or morph columns disagree";
     /// A section count above 4,294,967,295.
-    CountTooLarge = 11,
+    CountTooLarge = 11, "a section would have more than 4,294,967,295 records";
     /// A name index at or above the table's length.
-    NameIndex = 12,
-    /// An output shorter than the file to be written. The calls of this crate lend enough.
-    OutputTooShort = 13,
-}
-
-impl Refusal {
-    /// All of them, in the order of their numbers.
-    pub const ALL: [Refusal; 13] = [
-        Refusal::EndsEarly,
-        Refusal::MagicDiffers,
-        Refusal::ScratchTooShort,
-        Refusal::Outside,
-        Refusal::PartsNotWhole,
-        Refusal::NameUnfit,
-        Refusal::NameNotGood,
-        Refusal::NotFinite,
-        Refusal::SelfShadowUnfit,
-        Refusal::ColumnsDisagree,
-        Refusal::CountTooLarge,
-        Refusal::NameIndex,
-        Refusal::OutputTooShort,
-    ];
-
-    /// The number of the refusal, from 1 to 13.
-    pub fn number(self) -> u32 {
-        self as u32
-    }
-}
-
-impl fmt::Display for Refusal {
-    fn fmt(&self, f: &mut fmt::Formatter<'_>) -> fmt::Result {
-        f.write_str(match self {
-            Refusal::EndsEarly => "the file ends early",
-            Refusal::MagicDiffers => "the file is not a VMD take",
-            Refusal::ScratchTooShort => "the scratch has fewer places than the file has property frames",
-            Refusal::Outside => "the file has no such record",
-            Refusal::PartsNotWhole => "a name table, the record bytes or the property frames are not whole",
-            Refusal::NameUnfit => "a name is too long or has a zero byte",
-            Refusal::NameNotGood => "a name's bytes are not good Shift_JIS",
-            Refusal::NotFinite => "a float of a camera, light, bone or morph is not finite",
-            Refusal::SelfShadowUnfit => "a self-shadow's distance is not finite, or its mode is above 2",
-            Refusal::ColumnsDisagree => "the lengths of the bone or morph columns disagree",
-            Refusal::CountTooLarge => "a section would have more than 4,294,967,295 records",
-            Refusal::NameIndex => "a name index is not below the length of its table",
-            Refusal::OutputTooShort => "the output is shorter than the file to be written",
-        })
-    }
+    NameIndex = 12, "a name index is not below the length of its table";
+    /// An output shorter than the file to be written. The calls that give a `Vec` lend enough.
+    OutputTooShort = 13, "the output is shorter than the file to be written";
 }
 
 impl std::error::Error for Refusal {}

@@ -5,8 +5,27 @@ use crate::refusal::{Error, Refusal};
 
 /// An accepted take: the file's bytes, owned or borrowed, and what opening found in them.
 ///
-/// Records are fetched by number, `None` at and above the count. Names are the bytes before the first zero, and lie in the
-/// file; floats have the file's 32 bits.
+/// Records are fetched by number, `None` at and above the count, or come one after another. Names are the bytes before the
+/// first zero, and lie in the file; floats have the file's 32 bits.
+///
+/// ```
+/// let mut file = b"Vocaloid Motion Data 0002".to_vec();
+/// file.resize(54, 0); // a model name of no bytes, and no bones
+/// file.extend(2u32.to_le_bytes()); // morphs
+/// for frame in [30u32, 60] {
+///     file.extend(b"smile\0\0\0\0\0\0\0\0\0\0");
+///     file.extend(frame.to_le_bytes());
+///     file.extend((frame as f32 / 60.0).to_le_bytes());
+/// }
+/// let take = vmd::Take::open(&file)?;
+/// let smiles: Vec<_> = take.morph_frames().filter(|morph| morph.name == b"smile").collect();
+/// assert_eq!(smiles[0].weight, 0.5);
+/// assert_eq!(smiles[1], take.morph(1).unwrap());
+/// # Ok::<(), vmd::Error>(())
+/// ```
+///
+/// Records are equal where what a file holds for them is, so floats by their bits: 0.0 and -0.0 differ, NaNs with other
+/// payloads too, and a NaN is equal to itself.
 #[derive(Clone, Debug)]
 pub struct Take<'a> {
     file: Cow<'a, [u8]>,
@@ -15,19 +34,18 @@ pub struct Take<'a> {
 }
 
 /// A bone's position and turn at a frame.
-#[derive(Clone, Copy, Debug, PartialEq)]
+#[derive(Clone, Copy, Debug)]
 #[allow(missing_docs)]
 pub struct BoneFrame<'t> {
     pub name: &'t [u8],
     pub frame: u32,
     pub translation: [f32; 3],
     pub rotation: [f32; 4],
-    /// 64 bytes.
-    pub interpolation: &'t [u8],
+    pub interpolation: &'t [u8; 64],
 }
 
 /// A face morph's weight at a frame.
-#[derive(Clone, Copy, Debug, PartialEq)]
+#[derive(Clone, Copy, Debug)]
 #[allow(missing_docs)]
 pub struct MorphFrame<'t> {
     pub name: &'t [u8],
@@ -36,22 +54,21 @@ pub struct MorphFrame<'t> {
 }
 
 /// The camera at a frame.
-#[derive(Clone, Copy, Debug, PartialEq)]
+#[derive(Clone, Copy, Debug)]
 #[allow(missing_docs)]
 pub struct CameraFrame<'t> {
     pub frame: u32,
     pub distance: f32,
     pub position: [f32; 3],
     pub rotation: [f32; 3],
-    /// 24 bytes.
-    pub interpolation: &'t [u8],
+    pub interpolation: &'t [u8; 24],
     pub field_of_view: u32,
     /// True where the file's byte is 0.
     pub perspective: bool,
 }
 
 /// The light at a frame.
-#[derive(Clone, Copy, Debug, PartialEq)]
+#[derive(Clone, Copy, Debug)]
 #[allow(missing_docs)]
 pub struct LightFrame {
     pub frame: u32,
@@ -60,7 +77,7 @@ pub struct LightFrame {
 }
 
 /// The self-shadow at a frame.
-#[derive(Clone, Copy, Debug, PartialEq)]
+#[derive(Clone, Copy, Debug)]
 #[allow(missing_docs)]
 pub struct SelfShadowFrame {
     pub frame: u32,
@@ -68,7 +85,7 @@ pub struct SelfShadowFrame {
     pub distance: f32,
 }
 
-/// A property frame; its IK states are fetched by its number and theirs.
+/// A property frame; its IK states are fetched by its number ([`Take::ik_states_of`], [`Take::ik_state`]).
 #[derive(Clone, Copy, Debug, PartialEq, Eq)]
 #[allow(missing_docs)]
 pub struct PropertyFrame {
@@ -86,9 +103,64 @@ pub struct IkState<'t> {
     pub enabled: bool,
 }
 
+/// A field as it is compared: a float is its bits.
+trait Bits {
+    type Of: Eq;
+    fn bits(self) -> Self::Of;
+}
+
+impl Bits for f32 {
+    type Of = u32;
+    fn bits(self) -> u32 {
+        self.to_bits()
+    }
+}
+
+impl<const N: usize> Bits for [f32; N] {
+    type Of = [u32; N];
+    fn bits(self) -> [u32; N] {
+        self.map(f32::to_bits)
+    }
+}
+
+fn same<T: Eq>(a: T, b: T) -> bool {
+    a == b
+}
+
+/// Equality of records with floats. A field that is left out, or a float that is not among the floats, is an error.
+macro_rules! equal_by_bits {
+    ($($record:ty { $($field:ident),*; floats $($float:ident),* })*) => {
+        $(impl PartialEq for $record {
+            fn eq(&self, other: &Self) -> bool {
+                let Self { $($field,)* $($float),* } = *self;
+                $(same($field, other.$field) &&)* $(same($float.bits(), other.$float.bits()) &&)* true
+            }
+        }
+        impl Eq for $record {})*
+    };
+}
+
+equal_by_bits! {
+    BoneFrame<'_> { name, frame, interpolation; floats translation, rotation }
+    MorphFrame<'_> { name, frame; floats weight }
+    CameraFrame<'_> { frame, interpolation, field_of_view, perspective; floats distance, position, rotation }
+    LightFrame { frame; floats color, direction }
+    SelfShadowFrame { frame, mode; floats distance }
+}
+
 /// Floats by their bits, in the order that a record has them.
 fn floats<const N: usize>(bits: &[u32]) -> [f32; N] {
     std::array::from_fn(|k| f32::from_bits(bits[k]))
+}
+
+/// The interpolation bytes of a record that is there: always as many as its layout has.
+fn curves<const N: usize>(part: &[u8]) -> &[u8; N] {
+    part.try_into().expect("a record has all of its interpolation bytes")
+}
+
+/// The records by all numbers below a count.
+fn records<R>(count: usize, fetch: impl Fn(usize) -> Option<R>) -> impl ExactSizeIterator<Item = R> + DoubleEndedIterator {
+    (0..count).map(move |i| fetch(i).expect("there is a record for each number below the count"))
 }
 
 impl<'a> Take<'a> {
@@ -173,7 +245,7 @@ impl<'a> Take<'a> {
             frame: r[0],
             translation: floats(&r[1..]),
             rotation: floats(&r[4..]),
-            interpolation: c::bone_interpolation(&self.file, &self.opening, i),
+            interpolation: curves(c::bone_interpolation(&self.file, &self.opening, i)),
         })
     }
 
@@ -192,7 +264,7 @@ impl<'a> Take<'a> {
             distance: f32::from_bits(r[1]),
             position: floats(&r[2..]),
             rotation: floats(&r[5..]),
-            interpolation: c::camera_interpolation(&self.file, &self.opening, i),
+            interpolation: curves(c::camera_interpolation(&self.file, &self.opening, i)),
             field_of_view: r[8],
             perspective: r[9] != 0,
         })
@@ -220,6 +292,42 @@ impl<'a> Take<'a> {
     pub fn ik_state(&self, i: usize, j: usize) -> Option<IkState<'_>> {
         let enabled = c::ik_state(&self.file, &self.opening, &self.scratch, i, j)?;
         Some(IkState { name: c::ik_name(&self.file, &self.opening, &self.scratch, i, j), enabled })
+    }
+
+    /// The bone frames, in the file's order.
+    pub fn bone_frames(&self) -> impl ExactSizeIterator<Item = BoneFrame<'_>> + DoubleEndedIterator {
+        records(self.bones(), |i| self.bone(i))
+    }
+
+    /// The morph frames, in the file's order.
+    pub fn morph_frames(&self) -> impl ExactSizeIterator<Item = MorphFrame<'_>> + DoubleEndedIterator {
+        records(self.morphs(), |i| self.morph(i))
+    }
+
+    /// The camera frames, in the file's order.
+    pub fn camera_frames(&self) -> impl ExactSizeIterator<Item = CameraFrame<'_>> + DoubleEndedIterator {
+        records(self.cameras(), |i| self.camera(i))
+    }
+
+    /// The light frames, in the file's order.
+    pub fn light_frames(&self) -> impl ExactSizeIterator<Item = LightFrame> + DoubleEndedIterator {
+        records(self.lights(), |i| self.light(i))
+    }
+
+    /// The self-shadow frames, in the file's order.
+    pub fn self_shadow_frames(&self) -> impl ExactSizeIterator<Item = SelfShadowFrame> + DoubleEndedIterator {
+        records(self.self_shadows(), |i| self.self_shadow(i))
+    }
+
+    /// The property frames, in the file's order.
+    pub fn property_frames(&self) -> impl ExactSizeIterator<Item = PropertyFrame> + DoubleEndedIterator {
+        records(self.properties(), |i| self.property(i))
+    }
+
+    /// The IK states of property frame `i`, in the file's order; none where there is no such frame.
+    pub fn ik_states_of(&self, i: usize) -> impl ExactSizeIterator<Item = IkState<'_>> + DoubleEndedIterator {
+        let count = self.property(i).map_or(0, |property| property.ik_states as usize);
+        records(count, move |j| self.ik_state(i, j))
     }
 }
 

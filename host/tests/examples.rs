@@ -27,9 +27,11 @@ fn the_leap_switches_the_legs_off() {
     for name in ["leap.vmd", "show.vmd"] {
         let (_, file) = takes.iter().find(|(of, _)| *of == name).unwrap();
         let take = Take::open(file).unwrap();
-        let enabled: Vec<_> = (0..take.properties())
-            .map(|i| (take.property(i).unwrap().frame, [0, 1].map(|j| take.ik_state(i, j).unwrap().enabled)))
-            .collect();
-        assert_eq!(enabled, [(0, [true, true]), (20, [false, true]), (22, [false, false]), (55, [true, true])], "{name}");
+        let enabled = take.property_frames().enumerate().map(|(i, property)| {
+            let states: Vec<_> = take.ik_states_of(i).map(|state| state.enabled).collect();
+            (property.frame, states)
+        });
+        let expected = [(0, [true, true]), (20, [false, true]), (22, [false, false]), (55, [true, true])];
+        assert!(enabled.eq(expected.map(|(frame, states)| (frame, states.to_vec()))), "{name}");
     }
 }

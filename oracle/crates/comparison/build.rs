@@ -1,7 +1,10 @@
 //! Where the proved library's archive stands: oracle/build.sh says.
+use std::path::PathBuf;
+
 fn main() {
-    let folder = std::env::var("VMD_LIBRARY_FOLDER").expect("VMD_LIBRARY_FOLDER names the folder with libvmd_c.a");
-    println!("cargo:rustc-link-search=native={folder}");
-    println!("cargo:rerun-if-env-changed=VMD_LIBRARY_FOLDER");
-    println!("cargo:rerun-if-changed={folder}/libvmd_c.a");
+    let library = PathBuf::from(std::env::var_os("VMD_LIB").expect("VMD_LIB names the library, a file libvmd_c.a"));
+    println!("cargo:rerun-if-env-changed=VMD_LIB");
+    println!("cargo:rerun-if-changed={}", library.display());
+    println!("cargo:rustc-link-search=native={}", library.parent().unwrap().display());
+    println!("cargo:rustc-link-lib=static=vmd_c");
 }

@@ -33,15 +33,7 @@ pub struct Opening {
 pub fn parse_animation(file: &[u8], scratch: &mut [u64], opening: &mut Opening) -> u32 {
     let (counts, places, totals) = (&mut opening.counts, &mut opening.places, &mut opening.totals);
     let answer = unsafe {
-        header::vmd_parse_animation(
-            pointer(file),
-            file.len(),
-            pointer_mut(scratch),
-            scratch.len(),
-            counts.as_mut_ptr(),
-            places.as_mut_ptr(),
-            totals.as_mut_ptr(),
-        )
+        header::vmd_parse_animation(pointer(file), file.len(), pointer_mut(scratch), scratch.len(), counts, places, totals)
     };
     alter_opening(answer, scratch, opening)
 }
@@ -75,12 +67,13 @@ fn alter_opening(answer: u32, scratch: &mut [u64], opening: &mut Opening) -> u32
 
 // ---- records by number
 
-type ByNumber = unsafe extern "C" fn(*const u8, usize, *const u32, *const u64, usize, *mut u32) -> u32;
-type PartByNumber = unsafe extern "C" fn(*const u8, usize, *const u32, *const u64, usize, *mut u64);
+type Counts = *const [u32; 6];
+type Places = *const [u64; 6];
+type ByNumber<const N: usize> = unsafe extern "C" fn(*const u8, usize, Counts, Places, usize, *mut [u32; N]) -> u32;
+type PartByNumber = unsafe extern "C" fn(*const u8, usize, Counts, Places, usize, *mut [u64; 2]);
 
-fn by_number(call: ByNumber, file: &[u8], opening: &Opening, i: usize, record: &mut [u32]) -> u32 {
-    let answer =
-        unsafe { call(pointer(file), file.len(), opening.counts.as_ptr(), opening.places.as_ptr(), i, record.as_mut_ptr()) };
+fn by_number<const N: usize>(call: ByNumber<N>, file: &[u8], opening: &Opening, i: usize, record: &mut [u32; N]) -> u32 {
+    let answer = unsafe { call(pointer(file), file.len(), &opening.counts, &opening.places, i, record) };
     if altered(Alter::OutsideAccepted) {
         return 0;
     }
@@ -89,7 +82,7 @@ fn by_number(call: ByNumber, file: &[u8], opening: &Opening, i: usize, record: &
 
 fn part_by_number(call: PartByNumber, file: &[u8], opening: &Opening, i: usize) -> [u64; 2] {
     let mut part = [u64::MAX; 2];
-    unsafe { call(pointer(file), file.len(), opening.counts.as_ptr(), opening.places.as_ptr(), i, part.as_mut_ptr()) };
+    unsafe { call(pointer(file), file.len(), &opening.counts, &opening.places, i, &mut part) };
     part
 }
 
@@ -127,17 +120,7 @@ pub fn camera_frame(file: &[u8], opening: &Opening, i: usize, record: &mut [u32;
 
 /// frame; color r g b, direction x y z
 pub fn light_frame(file: &[u8], opening: &Opening, i: usize, frame: &mut u32, values: &mut [f32; 6]) -> u32 {
-    unsafe {
-        header::vmd_light_frame(
-            pointer(file),
-            file.len(),
-            opening.counts.as_ptr(),
-            opening.places.as_ptr(),
-            i,
-            frame,
-            values.as_mut_ptr(),
-        )
-    }
+    unsafe { header::vmd_light_frame(pointer(file), file.len(), &opening.counts, &opening.places, i, frame, values) }
 }
 
 /// frame, color r g b, direction x y z
@@ -164,12 +147,12 @@ pub fn property_frame(file: &[u8], opening: &Opening, scratch: &[u64], i: usize,
         header::vmd_property_frame(
             pointer(file),
             file.len(),
-            opening.counts.as_ptr(),
-            opening.places.as_ptr(),
+            &opening.counts,
+            &opening.places,
             pointer(scratch),
             scratch.len(),
             i,
-            record.as_mut_ptr(),
+            record,
         )
     }
 }
@@ -179,8 +162,8 @@ pub fn ik_state(file: &[u8], opening: &Opening, scratch: &[u64], i: usize, j: us
         header::vmd_ik_state(
             pointer(file),
             file.len(),
-            opening.counts.as_ptr(),
-            opening.places.as_ptr(),
+            &opening.counts,
+            &opening.places,
             pointer(scratch),
             scratch.len(),
             i,
@@ -226,13 +209,13 @@ pub fn ik_name(file: &[u8], opening: &Opening, scratch: &[u64], i: usize, j: usi
         header::vmd_ik_name(
             pointer(file),
             file.len(),
-            opening.counts.as_ptr(),
-            opening.places.as_ptr(),
+            &opening.counts,
+            &opening.places,
             pointer(scratch),
             scratch.len(),
             i,
             j,
-            part.as_mut_ptr(),
+            &mut part,
         )
     };
     part
@@ -240,7 +223,7 @@ pub fn ik_name(file: &[u8], opening: &Opening, scratch: &[u64], i: usize, j: usi
 
 pub fn model_name(file: &[u8]) -> [u64; 2] {
     let mut part = [u64::MAX; 2];
-    unsafe { header::vmd_model_name(pointer(file), file.len(), part.as_mut_ptr()) };
+    unsafe { header::vmd_model_name(pointer(file), file.len(), &mut part) };
     part
 }
 
@@ -290,7 +273,7 @@ pub fn join_animations(first: &[u8], second: &[u8], out: &mut [u8], written: &mu
 /// Which file the joined model name is in, where it begins there, and its length.
 pub fn joined_model(first: &[u8], second: &[u8]) -> [u64; 3] {
     let mut part = [u64::MAX; 3];
-    unsafe { header::vmd_joined_model(pointer(first), first.len(), pointer(second), second.len(), part.as_mut_ptr()) };
+    unsafe { header::vmd_joined_model(pointer(first), first.len(), pointer(second), second.len(), &mut part) };
     if altered(Alter::JoinModelName) {
         part[0] ^= 1;
     }

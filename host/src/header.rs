@@ -1,0 +1,114 @@
+//! The functions of include/vmd.h, declared for Rust. This is the only such declaration: the crate has it, and the comparison
+//! with the original (oracle/) takes this file. tests/interface.rs holds it to the header, parameter by parameter.
+
+#[rustfmt::skip] // a slice's pointer and length stay on one line
+#[allow(dead_code)] // each user calls some of them
+unsafe extern "C" {
+    pub fn vmd_parse_animation(
+        file: *const u8, file_len: usize, scratch: *mut u64, scratch_len: usize, counts: *mut [u32; 6],
+        places: *mut [u64; 6], totals: *mut [u64; 2],
+    ) -> u32;
+    pub fn vmd_bone_frame(
+        file: *const u8, file_len: usize, counts: *const [u32; 6], places: *const [u64; 6], i: usize,
+        record: *mut [u32; 8],
+    ) -> u32;
+    pub fn vmd_morph_frame(
+        file: *const u8, file_len: usize, counts: *const [u32; 6], places: *const [u64; 6], i: usize,
+        record: *mut [u32; 2],
+    ) -> u32;
+    pub fn vmd_camera_frame(
+        file: *const u8, file_len: usize, counts: *const [u32; 6], places: *const [u64; 6], i: usize,
+        record: *mut [u32; 10],
+    ) -> u32;
+    pub fn vmd_light_frame(
+        file: *const u8, file_len: usize, counts: *const [u32; 6], places: *const [u64; 6], i: usize,
+        frame: *mut u32, values: *mut [f32; 6],
+    ) -> u32;
+    pub fn vmd_light_frame_bits(
+        file: *const u8, file_len: usize, counts: *const [u32; 6], places: *const [u64; 6], i: usize,
+        record: *mut [u32; 7],
+    ) -> u32;
+    pub fn vmd_self_shadow_frame(
+        file: *const u8, file_len: usize, counts: *const [u32; 6], places: *const [u64; 6], i: usize,
+        record: *mut [u32; 3],
+    ) -> u32;
+    pub fn vmd_property_frame(
+        file: *const u8, file_len: usize, counts: *const [u32; 6], places: *const [u64; 6],
+        scratch: *const u64, scratch_len: usize, i: usize, record: *mut [u32; 3],
+    ) -> u32;
+    pub fn vmd_ik_state(
+        file: *const u8, file_len: usize, counts: *const [u32; 6], places: *const [u64; 6],
+        scratch: *const u64, scratch_len: usize, i: usize, j: usize, enabled: *mut u32,
+    ) -> u32;
+    pub fn vmd_bone_name(
+        file: *const u8, file_len: usize, counts: *const [u32; 6], places: *const [u64; 6], i: usize,
+        part: *mut [u64; 2],
+    );
+    pub fn vmd_morph_name(
+        file: *const u8, file_len: usize, counts: *const [u32; 6], places: *const [u64; 6], i: usize,
+        part: *mut [u64; 2],
+    );
+    pub fn vmd_ik_name(
+        file: *const u8, file_len: usize, counts: *const [u32; 6], places: *const [u64; 6],
+        scratch: *const u64, scratch_len: usize, i: usize, j: usize, part: *mut [u64; 2],
+    );
+    pub fn vmd_model_name(file: *const u8, file_len: usize, part: *mut [u64; 2]);
+    pub fn vmd_bone_interpolation(
+        file: *const u8, file_len: usize, counts: *const [u32; 6], places: *const [u64; 6], i: usize,
+        part: *mut [u64; 2],
+    );
+    pub fn vmd_camera_interpolation(
+        file: *const u8, file_len: usize, counts: *const [u32; 6], places: *const [u64; 6], i: usize,
+        part: *mut [u64; 2],
+    );
+    pub fn vmd_export_size(file: *const u8, file_len: usize, size: *mut u64) -> u32;
+    pub fn vmd_export_animation(file: *const u8, file_len: usize, out: *mut u8, out_len: usize, written: *mut u64) -> u32;
+    pub fn vmd_join_size(first: *const u8, first_len: usize, second: *const u8, second_len: usize, size: *mut u64) -> u32;
+    pub fn vmd_join_animations(
+        first: *const u8, first_len: usize, second: *const u8, second_len: usize,
+        out: *mut u8, out_len: usize, written: *mut u64,
+    ) -> u32;
+    pub fn vmd_joined_model(first: *const u8, first_len: usize, second: *const u8, second_len: usize, part: *mut [u64; 3]);
+    pub fn vmd_first_fault(name: *const u8, name_len: usize) -> usize;
+    pub fn vmd_build_size(
+        model_name: *const u8, model_name_len: usize,
+        bone_name_bytes: *const u8, bone_name_bytes_len: usize,
+        bone_name_ends: *const u32, bone_name_ends_len: usize,
+        morph_name_bytes: *const u8, morph_name_bytes_len: usize,
+        morph_name_ends: *const u32, morph_name_ends_len: usize,
+        camera_frames: *const u8, camera_frames_len: usize,
+        light_frames: *const u8, light_frames_len: usize,
+        self_shadow_frames: *const u8, self_shadow_frames_len: usize,
+        property_frames: *const u8, property_frames_len: usize,
+        bone_name_indices: *const u32, bone_name_indices_len: usize,
+        bone_frames: *const u32, bone_frames_len: usize,
+        bone_translations_xyz: *const f32, bone_translations_xyz_len: usize,
+        bone_rotations_xyzw: *const f32, bone_rotations_xyzw_len: usize,
+        bone_interpolations: *const u8, bone_interpolations_len: usize,
+        morph_name_indices: *const u32, morph_name_indices_len: usize,
+        morph_frames: *const u32, morph_frames_len: usize,
+        morph_weights: *const f32, morph_weights_len: usize,
+        size: *mut u64,
+    ) -> u32;
+    pub fn vmd_build_animation_from_parts(
+        model_name: *const u8, model_name_len: usize,
+        bone_name_bytes: *const u8, bone_name_bytes_len: usize,
+        bone_name_ends: *const u32, bone_name_ends_len: usize,
+        morph_name_bytes: *const u8, morph_name_bytes_len: usize,
+        morph_name_ends: *const u32, morph_name_ends_len: usize,
+        camera_frames: *const u8, camera_frames_len: usize,
+        light_frames: *const u8, light_frames_len: usize,
+        self_shadow_frames: *const u8, self_shadow_frames_len: usize,
+        property_frames: *const u8, property_frames_len: usize,
+        bone_name_indices: *const u32, bone_name_indices_len: usize,
+        bone_frames: *const u32, bone_frames_len: usize,
+        bone_translations_xyz: *const f32, bone_translations_xyz_len: usize,
+        bone_rotations_xyzw: *const f32, bone_rotations_xyzw_len: usize,
+        bone_interpolations: *const u8, bone_interpolations_len: usize,
+        morph_name_indices: *const u32, morph_name_indices_len: usize,
+        morph_frames: *const u32, morph_frames_len: usize,
+        morph_weights: *const f32, morph_weights_len: usize,
+        out: *mut u8, out_len: usize,
+        written: *mut u64,
+    ) -> u32;
+}
