@@ -11,7 +11,7 @@ use Rattle.vmd_format.specs.Answer.{declined, given, and-then, map-answe
 use Rattle.vmd_format.specs.Read.{Step, refused, got, Manner}
 use Rattle.vmd_format.specs.ReadLaws.{Always}
 use Rattle.vmd_format.specs.Take.{Take, File, take-of, read-file, answer, read-take, write-take}
-use Rattle.vmd_format.specs.TakeLaws.{WellFormed, take-back, file-fair}
+use Rattle.vmd_format.specs.TakeLaws.{WellFormed, take-small, take-back, file-fair}
 use Rattle.vmd_format.specs.Join.{export-file, join, fit-together, join-takes, join-files}
 use Rattle.vmd_format.specs.JoinLaws.{Fit, Fit₃, empty, join-well-formed, fit-test, test-fit, join-empty-left, join-empty-right, join-assoc, fit-left, fit-right, fit-first, fit-last, fit-then, fit-before}
 
@@ -30,6 +30,10 @@ module _ (m : Manner) where
       go : (x : Step File) → answer x ≡ given t → Always (λ f r. WellFormed (take-of f)) x → WellFormed t
       go (refused k) e a = let z : _≡_ {A = ℕ} 0 1 = cc in absurd (omega arith)
       go (got f r) e a = subst WellFormed (cc) a
+
+  -- the file of a well-formed take is accepted, and reads as that take
+  pub written-accepted : (t : Take) → WellFormed t → Accepted m (write-take t) t
+  written-accepted t w = record { bytes = take-small t w; reads = take-back m t w }
 
   pub export-is : {s : List ℕ} {t : Take} → Accepted m s t → export-file m s ≡ given (write-take t)
   unfolding export-file map-answer
