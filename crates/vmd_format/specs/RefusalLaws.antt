@@ -1,6 +1,6 @@
 -- Which refusals reading and opening give, and in which order: document 01, "Opening: 1 and 2 as met, then 3."
 use Prim.Native.Nat.{ℕ, zero, suc, _*_, _<_}
-use mathlib.Core.Path.{_≡_, sym, subst}
+use mathlib.Core.Path.{_≡_, refl, sym, subst}
 use mathlib.Core.Bool.{Bool, true, false}
 use mathlib.Core.List.{List, [], _∷_, _++_}
 use native.Mathlib.Omega.{arith}
@@ -10,11 +10,12 @@ use lib.Dec.{leb}
 use Rattle.vmd_format.specs.Bytes.{u32}
 use Rattle.vmd_format.specs.Layout.{Layout}
 use Rattle.vmd_format.specs.Refusal.{Refusal, number, file-ends-early, magic-differs, scratch-too-short}
-use Rattle.vmd_format.specs.Answer.{Answer, declined, given, unless}
+use Rattle.vmd_format.specs.Answer.{Answer, declined, given, and-then, unless}
 use Rattle.vmd_format.specs.Records.{ik-state, property-head}
 use Rattle.vmd_format.specs.Read.{Step, refused, got, Reader, bind, Codec, whole-if, whole, fixed, many, Section, Oversized, refuse, emptied, BytesOver, ignored, turned-down, Manner, lenient, over-count, records-if, counted-if, counted, optional}
 use Rattle.vmd_format.specs.Take.{Take, File, take-of, property, magic, same, model-if, magic-if, header-if, header, ended, sections, read-file, answer, read-take}
 use Rattle.vmd_format.specs.Opening.{Opening, opening-of, opened, open-file}
+use Rattle.vmd_format.specs.OpeningLaws.{take-opens, ScratchEnough}
 
 -- ---- definitions
 
@@ -135,13 +136,28 @@ module _ (P : Refusal → Type 0) where
 
 -- ---- numbers that are among others
 
-among-front : {n : ℕ} (l r : List ℕ) → Among n l → Among n (l ++ r)
+pub among-front : {n : ℕ} (l r : List ℕ) → Among n l → Among n (l ++ r)
 among-front (a ∷ l) r here = here
 among-front (a ∷ l) r (there h) = there (among-front l r h)
 
-among-back : {n : ℕ} (l r : List ℕ) → Among n r → Among n (l ++ r)
+pub among-back : {n : ℕ} (l r : List ℕ) → Among n r → Among n (l ++ r)
 among-back [] r h = h
 among-back (a ∷ l) r h = there (among-back l r h)
+
+-- an answer's refusals, among more of them; and one answer after another
+pub refuses-more : {A : Type 0} (l r : List ℕ) (x : Answer A) → Refuses l x → Refuses (l ++ r) x
+refuses-more l r (declined k) h = among-front l r h
+refuses-more l r (given a) h = tt
+
+pub refuses-then : {A B : Type 0} (l : List ℕ) (x : Answer A) (f : A → Answer B) → Refuses l x → ((a : A) → Refuses l (f a)) → Refuses l (and-then x f)
+unfolding and-then
+refuses-then l (declined k) f h g = h
+refuses-then l (given a) f h g = g a
+
+pub refuses-unless : {A : Type 0} (l : List ℕ) (b : Bool) (k : Refusal) (x : Answer A) → Among (number k) l → Refuses l x → Refuses l (unless b k x)
+unfolding unless
+refuses-unless l true k x h g = g
+refuses-unless l false k x h g = h
 
 -- ---- reading and opening
 
@@ -210,6 +226,14 @@ module _ (m : Manner) where
           let q : take-of f ≡ t = cc in
           let n : places < length (f .properties .items) = subst (λ u. places < length (u .properties)) (sym q) h in
           rw (lt-leb (length (f .properties .items)) places n)
+
+  -- with scratch enough, only as reading refuses
+  pub enough-refuses : (s : List ℕ) (places : ℕ) → ScratchEnough m s places → Refuses (reading-numbers m) (open-file m s places)
+  enough-refuses s places h = go (read-take m s) refl (reading-refuses s)
+    where
+      go : (x : Answer Take) → read-take m s ≡ x → Refuses (reading-numbers m) x → Refuses (reading-numbers m) (open-file m s places)
+      go (declined k) e r = rw (opening-reads-first s places k e) r
+      go (given t) e r = rw (take-opens m s t places e (h t e) .1) tt
 
 -- "Opening: 1, 2, 3", as document 01 reads
 pub opening-numbers : (s : List ℕ) (places : ℕ) → Refuses (1 ∷ 2 ∷ 3 ∷ []) (open-file lenient s places)

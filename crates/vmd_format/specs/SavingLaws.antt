@@ -7,7 +7,7 @@ use mathlib.Core.List.{List}
 use native.Mathlib.Omega.{arith}
 use Rattle.vmd_format.specs.BytesLaws.{Bytes}
 use Rattle.vmd_format.specs.Refusal.{Refusal, count-too-large}
-use Rattle.vmd_format.specs.Answer.{declined, given, and-then, map-answer, unless}
+use Rattle.vmd_format.specs.Answer.{Answer, declined, given, and-then, map-answer, unless}
 use Rattle.vmd_format.specs.Read.{Step, refused, got, Manner}
 use Rattle.vmd_format.specs.ReadLaws.{Always}
 use Rattle.vmd_format.specs.Take.{Take, File, take-of, read-file, answer, read-take, write-take}
@@ -20,6 +20,12 @@ use Rattle.vmd_format.specs.JoinLaws.{Fit, Fit₃, empty, join-well-form
 pub record Accepted (m : Manner) (s : List ℕ) (t : Take) : Type 0 where
   pub bytes : Bytes s
   pub reads : read-take m s ≡ given t
+
+-- what a call left in an output is a file, and it is accepted and reads as t
+pub record Reads (m : Manner) (x : Answer (List ℕ)) (t : Take) : Type 0 where
+  pub file : List ℕ
+  pub is : x ≡ given file
+  pub accepted : Accepted m file t
 
 module _ (m : Manner) where
   -- accepted implies well formed
