@@ -2,11 +2,11 @@
 use Prim.Native.Nat.{ℕ}
 use mathlib.Core.Path.{_≡_, refl}
 use mathlib.Core.Bool.{true, false}
-use mathlib.Core.List.{List, [], _∷_}
+use mathlib.Core.List.{[], _∷_}
 use lib.IntN.{pos}
 use lib.Ieee.{nan, fin, ofBits}
 use Rattle.vmd_format.specs.Refusal.{file-ends-early, output-too-short}
-use Rattle.vmd_format.specs.Answer.{Answer, declined, given}
+use Rattle.vmd_format.specs.Answer.{declined, given}
 use Rattle.vmd_format.specs.Records.{Light}
 use Rattle.vmd_format.specs.Opening.{Scan, Opening}
 use Rattle.vmd_format.specs.Computed.{computed}
@@ -15,7 +15,7 @@ use Rattle.vmd_c.specs.Meaning.{status, slot-after, counts-of, places-of
 -- 0, or the number; the new value, or the old
 pub returned :
     (status {A = ℕ} (given 9) ≡ 0) × (status {A = ℕ} (declined file-ends-early) ≡ 1) × (status {A = ℕ} (declined output-too-short) ≡ 13)
-    × (slot-after 5 (λ n. n) (given 9) ≡ 9) × (slot-after {A = ℕ} 5 (λ n. n) (declined output-too-short) ≡ 5)
+    × (slot-after {A = ℕ} {B = ℕ} 5 (λ n. n) (given 9) ≡ 9) × (slot-after {A = ℕ} {B = ℕ} 5 (λ n. n) (declined output-too-short) ≡ 5)
 unfolding status slot-after
 returned = (refl, refl, refl, refl, refl)
 

@@ -7,7 +7,7 @@ use lib.ListN.{replicate}
 use Rattle.vmd_format.specs.Refusal.{file-ends-early, magic-differs, output-too-short}
 use Rattle.vmd_format.specs.Answer.{declined, given}
 use Rattle.vmd_format.specs.Read.{lenient}
-use Rattle.vmd_format.specs.Computed.{computed, text, start, fours, u0, u1, morph-bytes}
+use Rattle.vmd_format.specs.Computed.{computed, start, fours, u0, u1, morph-bytes}
 use Rattle.vmd_scan.specs.declared.VmdRefusal.the-variants.{OutputTooShort}
 use Rattle.vmd_output.specs.declared.VmdWritten.the-variants.{Refused, Bytes}
 use Rattle.vmd_output.specs.Meaning.{written-answer}

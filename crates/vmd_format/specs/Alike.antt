@@ -1,5 +1,5 @@
 -- When the records of two takes are equal: document 01, "Words of demand 3". Then the takes are the same, and only then.
-use Prim.Native.Nat.{ℕ, zero, suc, _<_}
+use Prim.Native.Nat.{ℕ, suc, _<_}
 use mathlib.Core.Path.{_≡_, refl, subst}
 use mathlib.Core.Logic.{_↔_}
 use mathlib.Core.List.{List, [], _∷_}

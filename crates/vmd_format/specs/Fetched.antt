@@ -8,7 +8,6 @@ use lib.ListN.{replicate}
 use lib.Dec.{T}
 use Rattle.vmd_format.specs.Answer.{Answer, given, map-answer}
 use Rattle.vmd_format.specs.Records.{Morph, IkState, bone, morph, camera}
-use Rattle.vmd_format.specs.Opening.{Part}
 use Rattle.vmd_format.specs.Fetch.{fetch, or-empty, model-of, PropertyHead, fetch-property, fetch-ik-state}
 use Rattle.vmd_format.specs.Computed.{computed, declines, text, fours, bone-bytes, bone-said, morph-bytes, morph-said, camera-bytes, camera-said, ik-bytes, ik-said}
 

@@ -1,17 +1,16 @@
 -- Building, of what the call answers and leaves in its output, in the terms of its contract: a file that the reader accepts,
 -- in every manner of reading, and that reads back as the take the parts mean. What is assumed of the lists is what the types of
 -- the call's slices give, and no more.
-use Prim.Native.Nat.{ℕ, zero, suc, _≤_, _<_, _^_}
-use mathlib.Core.Path.{_≡_, ap}
-use mathlib.Core.List.{List, [], _∷_, map}
+use Prim.Native.Nat.{ℕ, zero, suc}
+use mathlib.Core.Path.{_≡_}
+use mathlib.Core.List.{List, [], _∷_}
 use native.Mathlib.Omega.{arith}
-use lib.ListN.{length, getD}
+use lib.ListN.{length}
 use lib.Dec.{T}
-use lib.Ieee.{Float, binary32, fits, toBits}
+use lib.Ieee.{Float, binary32, fits}
 use lib.Ieee.Bits.{toBits-lt}
 use Rattle.vmd_format.specs.BytesLaws.{Bytes}
-use Rattle.vmd_format.specs.Refusal.{Refusal, number}
-use Rattle.vmd_format.specs.Answer.{Answer, declined, given, map-answer, unless, fitted, left, file-left}
+use Rattle.vmd_format.specs.Answer.{Answer, given, map-answer, fitted, left, file-left}
 use Rattle.vmd_format.specs.AnswerLaws.{left-whole, not-refused}
 use Rattle.vmd_format.specs.Read.{Manner}
 use Rattle.vmd_format.specs.ReadLaws.{All}

@@ -1,5 +1,4 @@
 -- What the answers of the reader mean, with other values in every field and place, so that one out of its place shows.
-use Prim.Native.Nat.{ℕ}
 use mathlib.Core.Path.{_≡_, refl}
 use mathlib.Core.Bool.{_&&_}
 use lib.Dec.{eqb, T}

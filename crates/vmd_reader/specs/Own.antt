@@ -8,12 +8,12 @@ use lib.ListN.{length, getD}
 use Rattle.vmd_format.specs.Layout.{Layout}
 use Rattle.vmd_format.specs.Refusal.{outside}
 use Rattle.vmd_format.specs.Answer.{Answer, declined, given, map-answer}
-use Rattle.vmd_format.specs.Records.{Bone, Morph, Camera, Light, SelfShadow, IkState, Property, bone, morph, camera, light, self-shadow}
+use Rattle.vmd_format.specs.Records.{IkState, Property, bone, morph, camera, light, self-shadow}
 use Rattle.vmd_format.specs.Read.{Manner}
 use Rattle.vmd_format.specs.Take.{Take, read-take}
 use Rattle.vmd_format.specs.Opening.{Part, Opening, open-file, scratch-after}
 use Rattle.vmd_format.specs.Fetch.{fetch, or-empty, model-of, fetch-property, fetch-ik-state}
-use Rattle.vmd_format.specs.FetchLaws.{Fetches, FetchesProperties, Own, own-records, head-of, fetches-fields, fetches-part, past-fields, past-part}
+use Rattle.vmd_format.specs.FetchLaws.{Fetches, FetchesProperties, own-records, head-of, fetches-fields, fetches-part, past-fields, past-part}
 use Rattle.vmd_records.specs.Fields.{bone-fields, morph-fields, camera-fields, light-floats, light-bits, self-shadow-fields, property-fields, ik-fields}
 
 -- ---- definitions

@@ -1,9 +1,7 @@
 -- What each struct holds, from the bytes of a record: every field has other bytes than the rest, so a field out of its place
 -- shows. The bytes count up from 1; numbers are in hexadecimal, two digits a byte.
-use Prim.Native.Nat.{ℕ}
 use mathlib.Core.Path.{_≡_, refl}
 use mathlib.Core.Bool.{true, false}
-use mathlib.Core.List.{[], _∷_}
 use lib.IntN.{pos}
 use lib.Ieee.{nan, fin, ofBits}
 use Rattle.vmd_format.specs.Records.{bone, morph, camera, light, self-shadow, ik-state}
