@@ -1,3 +1,4 @@
 pub mod Meaning
 pub mod PartsOfFile
 pub mod Own
+pub mod Examples

@@ -473,7 +473,7 @@ fn report_written(answer: VmdWritten, slot: &mut u64) -> u32
 
 #[no_mangle]
 pub extern "C" fn vmd_export_size(file: &[u8], size: &mut u64) -> u32
-    ensures { λ r. ⌜ (let answer = export-size (now (file .entry)) in
+    ensures { λ r. ⌜ (let answer = export-size lenient (now (file .entry)) in
         (r ≡ status answer)
         × (now (size .exit) ≡ slot-after (now (size .entry)) (λ n. n) answer)) ⌝ }
 {
@@ -482,17 +482,17 @@ pub extern "C" fn vmd_export_size(file: &[u8], size: &mut u64) -> u32
 
 #[no_mangle]
 pub extern "C" fn vmd_export_animation(file: &[u8], out: &mut [u8], written: &mut u64) -> u32
-    ensures { λ r. ⌜ (let answer = exported-answer (now (file .entry)) (now (out .entry)) in
+    ensures { λ r. ⌜ (let answer = exported-answer lenient (now (file .entry)) (now (out .entry)) in
         (r ≡ status answer)
         × (now (written .exit) ≡ slot-after (now (written .entry)) (λ n. n) answer)
-        × (now (out .exit) ≡ exported-output (now (file .entry)) (now (out .entry)))) ⌝ }
+        × (now (out .exit) ≡ exported-output lenient (now (file .entry)) (now (out .entry)))) ⌝ }
 {
     report_written(vmd_export::export_vmd_animation(file, out), written)
 }
 
 #[no_mangle]
 pub extern "C" fn vmd_join_size(first: &[u8], second: &[u8], size: &mut u64) -> u32
-    ensures { λ r. ⌜ (let answer = join-size (now (first .entry)) (now (second .entry)) in
+    ensures { λ r. ⌜ (let answer = join-size lenient (now (first .entry)) (now (second .entry)) in
         (r ≡ status answer)
         × (now (size .exit) ≡ slot-after (now (size .entry)) (λ n. n) answer)) ⌝ }
 {
@@ -506,10 +506,10 @@ pub extern "C" fn vmd_join_animations<'a>(
     out: &mut [u8],
     written: &mut u64,
 ) -> u32
-    ensures { λ r. ⌜ (let answer = joined-answer (now (first .entry)) (now (second .entry)) (now (out .entry)) in
+    ensures { λ r. ⌜ (let answer = joined-answer lenient (now (first .entry)) (now (second .entry)) (now (out .entry)) in
         (r ≡ status answer)
         × (now (written .exit) ≡ slot-after (now (written .entry)) (λ n. n) answer)
-        × (now (out .exit) ≡ joined-output (now (first .entry)) (now (second .entry)) (now (out .entry)))) ⌝ }
+        × (now (out .exit) ≡ joined-output lenient (now (first .entry)) (now (second .entry)) (now (out .entry)))) ⌝ }
 {
     report_written(vmd_export::join_vmd_animations(first, second, out), written)
 }

@@ -2,3 +2,6 @@ pub mod Meaning
 pub mod Saved
 pub mod Together
 pub mod Demand3
+pub mod ReadBack
+pub mod Refusals
+pub mod Examples

@@ -116,7 +116,7 @@ fn scan_both(first: &[u8], second: &[u8]) -> BothAnswer
 
 // For export_vmd_animation.
 pub fn export_vmd_size(file: &[u8]) -> VmdWritten
-    ensures { λ r. ⌜ written-answer r ≡ export-size (now (file .entry)) ⌝ }
+    ensures { λ r. ⌜ written-answer r ≡ export-size lenient (now (file .entry)) ⌝ }
 {
     match scan_one(file) {
         ScanAnswer::Refused(k) => VmdWritten::Refused(k),
@@ -126,7 +126,7 @@ pub fn export_vmd_size(file: &[u8]) -> VmdWritten
 
 // For join_vmd_animations.
 pub fn join_vmd_size(first: &[u8], second: &[u8]) -> VmdWritten
-    ensures { λ r. ⌜ written-answer r ≡ join-size (now (first .entry)) (now (second .entry)) ⌝ }
+    ensures { λ r. ⌜ written-answer r ≡ join-size lenient (now (first .entry)) (now (second .entry)) ⌝ }
 {
     match scan_both(first, second) {
         BothAnswer::Refused(k) => VmdWritten::Refused(k),
@@ -206,8 +206,8 @@ fn write_take(
 
 // Writes the canonical file of a take at the front of out; a refusal leaves out as it was.
 pub fn export_vmd_animation(file: &[u8], out: &mut [u8]) -> VmdWritten
-    ensures { λ r. ⌜ written-answer r ≡ exported-answer (now (file .entry)) (now (out .entry)) ⌝ }
-    ensures { λ r. ⌜ now (out .exit) ≡ exported-output (now (file .entry)) (now (out .entry)) ⌝ }
+    ensures { λ r. ⌜ written-answer r ≡ exported-answer lenient (now (file .entry)) (now (out .entry)) ⌝ }
+    ensures { λ r. ⌜ now (out .exit) ≡ exported-output lenient (now (file .entry)) (now (out .entry)) ⌝ }
 {
     match scan_one(file) {
         ScanAnswer::Refused(k) => VmdWritten::Refused(k),
@@ -235,8 +235,8 @@ pub fn joined_model<'a>(first: &'a [u8], second: &'a [u8]) -> &'a [u8]
 
 // Writes the join of two takes at the front of out; a refusal leaves out as it was.
 pub fn join_vmd_animations<'a>(first: &'a [u8], second: &'a [u8], out: &mut [u8]) -> VmdWritten
-    ensures { λ r. ⌜ written-answer r ≡ joined-answer (now (first .entry)) (now (second .entry)) (now (out .entry)) ⌝ }
-    ensures { λ r. ⌜ now (out .exit) ≡ joined-output (now (first .entry)) (now (second .entry)) (now (out .entry)) ⌝ }
+    ensures { λ r. ⌜ written-answer r ≡ joined-answer lenient (now (first .entry)) (now (second .entry)) (now (out .entry)) ⌝ }
+    ensures { λ r. ⌜ now (out .exit) ≡ joined-output lenient (now (first .entry)) (now (second .entry)) (now (out .entry)) ⌝ }
 {
     match scan_both(first, second) {
         BothAnswer::Refused(k) => VmdWritten::Refused(k),

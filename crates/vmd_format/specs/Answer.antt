@@ -2,7 +2,7 @@
 use Prim.Native.Nat.{ℕ}
 use mathlib.Core.Bool.{Bool, true, false}
 use mathlib.Core.List.{List, _++_}
-use lib.ListN.{length, drop}
+use lib.ListN.{length, take, drop}
 use lib.Dec.{leb}
 use Rattle.vmd_format.specs.Refusal.{Refusal, output-too-short}
 
@@ -37,3 +37,8 @@ within limit n = unless (leb n limit) output-too-short (given n)
 unfoldable pub left : List ℕ → Answer (List ℕ) → List ℕ
 left out (declined k) = out
 left out (given s) = s ++ drop (length s) out
+
+-- "Exports and joins are the bytes written into an output long enough, that many and no more; these bytes alone are the file
+-- that is read back or joined again": as many bytes of the output at exit as the call answers
+unfoldable pub file-left : Answer ℕ → List ℕ → Answer (List ℕ)
+file-left a out = map-answer (λ n. take n out) a

@@ -1,10 +1,12 @@
 -- Laws of numbers and names in bytes.
 use Prim.Native.Nat.{ℕ, zero, suc, _+_, _*_, _/_, _%_, _≤_, _<_, _^_}
 use mathlib.Core.Path.{_≡_, refl, ap}
-use mathlib.Core.Bool.{Bool, true, false}
+use mathlib.Core.Bool.{Bool, true, false, _&&_, and-eq-true-iff}
 use mathlib.Core.List.{List, [], _∷_, _++_}
 use native.Mathlib.Omega.{arith}
 use native.Mathlib.Nat.{not-suc-le-zero, div-div-eq-div-mul}
+use borrow.Author.Tests.{ltb-true}
+use lib.Dec.{ltb}
 use lib.ListN.{length, getD, take, drop}
 use lib.Seq.{getD-drop}
 use Rattle.vmd_format.specs.Bytes.{u32, u32-bytes, before-zero, padded, is-zero, is-set, inverted-byte, flag-byte}
@@ -19,6 +21,24 @@ bytes-drop n s h i = rw getD-drop (h (n + i))
 pub bytes-nil : Bytes []
 bytes-nil i = omega arith
 
+pub bytes-cons : (b : ℕ) (s : List ℕ) → b < 256 → Bytes s → Bytes (b ∷ s)
+bytes-cons b s h k zero = h
+bytes-cons b s h k (suc i) = k i
+
+pub bytes-append : (s t : List ℕ) → Bytes s → Bytes t → Bytes (s ++ t)
+bytes-append [] t h k = k
+bytes-append (b ∷ s) t h k = bytes-cons b (s ++ t) (h 0) (bytes-append s t (λ i. h (suc i)) k)
+
+-- a computed test of bytes that are written out
+unfoldable pub all-bytes : List ℕ → Bool
+all-bytes [] = true
+all-bytes (b ∷ s) = ltb b 256 && all-bytes s
+
+pub bytes-tested : (s : List ℕ) → all-bytes s ≡ true → Bytes s
+unfolding all-bytes
+bytes-tested [] e = bytes-nil
+bytes-tested (b ∷ s) e = let h = and-eq-true-iff _ _ .0 e in bytes-cons b s (ltb-true b 256 (h .0)) (bytes-tested s (h .1))
+
 digits : (n a b c : ℕ) → n / 256 ≡ a → a / 256 ≡ b → b / 256 ≡ c → c < 256
     → n % 256 + 256 * (a % 256) + 65536 * (b % 256) + 16777216 * (c % 256) ≡ n
 digits n a b c p q r h = omega arith
@@ -31,6 +51,14 @@ u32-back n rest h =
 pub u32-lt : (s : List ℕ) → Bytes s → u32 s < 2 ^ 32
 unfolding u32
 u32-lt s h = omega (arith, h 0, h 1, h 2, h 3)
+
+pub u32-bytes-small : (n : ℕ) → Bytes (u32-bytes n)
+unfolding u32-bytes
+u32-bytes-small n zero = omega arith
+u32-bytes-small n (suc zero) = omega arith
+u32-bytes-small n (suc (suc zero)) = omega arith
+u32-bytes-small n (suc (suc (suc zero))) = omega arith
+u32-bytes-small n (suc (suc (suc (suc i)))) = omega arith
 
 -- a name: bytes other than zero, at most n
 pub record Name (n : ℕ) (s : List ℕ) : Type 0 where
@@ -47,6 +75,12 @@ unfolding padded
 padded-length zero s = refl
 padded-length (suc n) [] = ap suc (padded-length n [])
 padded-length (suc n) (b ∷ s) = ap suc (padded-length n s)
+
+pub padded-small : (n : ℕ) (s : List ℕ) → Bytes s → Bytes (padded n s)
+unfolding padded
+padded-small zero s h = bytes-nil
+padded-small (suc n) [] h = bytes-cons 0 (padded n []) (omega arith) (padded-small n [] bytes-nil)
+padded-small (suc n) (b ∷ s) h = bytes-cons b (padded n s) (h 0) (padded-small n s (λ i. h (suc i)))
 
 -- zeros alone hold the empty name
 zeros-back : (n : ℕ) (rest : List ℕ) → before-zero (take n (padded n [] ++ rest)) ≡ []
@@ -106,3 +140,13 @@ pub flag-back : (b : Bool) → is-set (flag-byte b) ≡ b
 unfolding is-set flag-byte
 flag-back true = refl
 flag-back false = refl
+
+pub inverted-small : (b : Bool) → inverted-byte b < 256
+unfolding inverted-byte
+inverted-small true = omega arith
+inverted-small false = omega arith
+
+pub flag-small : (b : Bool) → flag-byte b < 256
+unfolding flag-byte
+flag-small true = omega arith
+flag-small false = omega arith

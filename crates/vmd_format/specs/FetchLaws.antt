@@ -166,6 +166,17 @@ module _ (p : Part) (s scratch : List ℕ) (w : Walk) (e : walk s (p .count) (p 
 
 -- ---- the file's own opening and scratch
 
+-- "six counts, the number of IK states, largest frame": an opening's figures are those of a take
+pub record Figures (o : Opening) (t : Take) : Type 0 where
+  pub bones : o .scan .bones .count ≡ length (t .bones)
+  pub morphs : o .scan .morphs .count ≡ length (t .morphs)
+  pub cameras : o .scan .cameras .count ≡ length (t .cameras)
+  pub lights : o .scan .lights .count ≡ length (t .lights)
+  pub self-shadows : o .scan .self-shadows .count ≡ length (t .self-shadows)
+  pub properties : o .scan .properties .count ≡ length (t .properties)
+  pub ik-states : o .scan .ik-states ≡ ik-total (t .properties)
+  pub largest : o .largest-frame ≡ largest-frame t
+
 -- what an opening, and the scratch after it, say of a take
 pub record Own (s : List ℕ) (o : Opening) (scratch : List ℕ) (t : Take) : Type 0 where
   pub bones : Fetches bone (o .scan .bones) s (t .bones)
@@ -175,14 +186,7 @@ pub record Own (s : List ℕ) (o : Opening) (scratch : List ℕ) (t : Take) : Ty
   pub self-shadows : Fetches self-shadow (o .scan .self-shadows) s (t .self-shadows)
   pub properties : FetchesProperties (o .scan .properties) scratch s (t .properties)
   pub model : model-of s ≡ t .model
-  pub bone-count : o .scan .bones .count ≡ length (t .bones)
-  pub morph-count : o .scan .morphs .count ≡ length (t .morphs)
-  pub camera-count : o .scan .cameras .count ≡ length (t .cameras)
-  pub light-count : o .scan .lights .count ≡ length (t .lights)
-  pub self-shadow-count : o .scan .self-shadows .count ≡ length (t .self-shadows)
-  pub property-count : o .scan .properties .count ≡ length (t .properties)
-  pub ik-states : o .scan .ik-states ≡ ik-total (t .properties)
-  pub largest : o .largest-frame ≡ largest-frame t
+  pub figures : Figures o t
   pub places : take (length (t .properties)) scratch ≡ positions (o .scan .properties .place) (t .properties)
 
 own-file : (s scratch model : List ℕ) (x : Scan) → Inside s x → model-of s ≡ model
@@ -206,14 +210,16 @@ own-file s scratch model x k e total room =
           (simp (length-append, length-drop) (omega arith))
           (λ i h. List·getD-append q (drop (length q) scratch) 0 i (rw l h));
       model = e;
-      bone-count = sym (table-length bone (x .bones .count) (drop (x .bones .place) s));
-      morph-count = sym (table-length morph (x .morphs .count) (drop (x .morphs .place) s));
-      camera-count = sym (table-length camera (x .cameras .count) (drop (x .cameras .place) s));
-      light-count = sym (table-length light (x .lights .count) (drop (x .lights .place) s));
-      self-shadow-count = sym (table-length self-shadow (x .self-shadows .count) (drop (x .self-shadows .place) s));
-      property-count = sym (frames-length s n (x .properties .place));
-      ik-states = total;
-      largest = sym (file-largest model s x);
+      figures = record {
+        bones = sym (table-length bone (x .bones .count) (drop (x .bones .place) s));
+        morphs = sym (table-length morph (x .morphs .count) (drop (x .morphs .place) s));
+        cameras = sym (table-length camera (x .cameras .count) (drop (x .cameras .place) s));
+        lights = sym (table-length light (x .lights .count) (drop (x .lights .place) s));
+        self-shadows = sym (table-length self-shadow (x .self-shadows .count) (drop (x .self-shadows .place) s));
+        properties = sym (frames-length s n (x .properties .place));
+        ik-states = total;
+        largest = sym (file-largest model s x);
+      };
       places =
           rw (frames-length s n (x .properties .place), take-at q (drop (length q) scratch) n l) (sym (positions-places s n (x .properties .place)));
     }

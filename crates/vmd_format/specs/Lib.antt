@@ -19,14 +19,17 @@ pub mod ReadLaws
 pub mod TakeLaws
 pub mod JoinLaws
 pub mod SavingLaws
+pub mod Alike
 pub mod PlacesLaws
 pub mod ScanLaws
 pub mod OpeningLaws
+pub mod RefusalLaws
 pub mod FetchLaws
 pub mod Computed
 pub mod Takes
 pub mod Decodes
 pub mod WholeFile
+pub mod Fetched
 pub mod Joins
 pub mod Built
 pub mod PartsLaws

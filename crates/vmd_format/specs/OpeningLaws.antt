@@ -1,6 +1,7 @@
 -- Opening by places is opening: counts, places, IK total, largest frame, and the scratch.
-use Prim.Native.Nat.{ℕ, zero, suc, _+_, _*_, _-_, _≤_, max}
+use Prim.Native.Nat.{ℕ, zero, suc, _+_, _*_, _-_, _/_, _≤_, max}
 use mathlib.Core.Path.{_≡_, refl, ap, ap₂, sym, _∙_, subst}
+use mathlib.Core.Logic.{_↔_}
 use mathlib.Core.List.{List, _∷_}
 use native.Mathlib.Omega.{arith}
 use lib.ListN.{length, drop}
@@ -111,3 +112,27 @@ opened-reads m s o places h = go (read-file m s) h
     go : (x : Step File) → opened s places x ≡ given o → (t : Take) × (answer x ≡ given t)
     go (refused k) e = let z : _≡_ {A = ℕ} 0 1 = cc in absurd (omega arith)
     go (got f u) e = (take-of f, refl)
+
+-- ---- acceptance
+
+-- "with scratch enough": not fewer places than property frames
+abbrev pub ScratchEnough : Manner → List ℕ → ℕ → Type 0
+ScratchEnough m s places = (t : Take) → read-take m s ≡ given t → length (t .properties) ≤ places
+
+-- "The reader accepts a file when opening it, with scratch enough, gives no refusal": it reads as a take exactly then
+pub accepts : (m : Manner) (s : List ℕ) (places : ℕ) → ScratchEnough m s places
+    → ((t : Take) × (read-take m s ≡ given t)) ↔ ((o : Opening) × (open-file m s places ≡ given o))
+accepts m s places h = (λ x. take-opens m s (x .0) places (x .1) (h (x .0) (x .1)), λ x. opened-reads m s (x .0) places (x .1))
+
+-- a place for each nine bytes of the file is always enough, since a property frame has at least nine
+pub ninth-enough : (m : Manner) (s : List ℕ) (places : ℕ) → length s / 9 ≤ places → ScratchEnough m s places
+unfolding read-take answer take-of
+ninth-enough m s places n t e = go (read-file m s) (scan-file m s) (file-agrees m s) e
+  where
+    go : (x : Step File) (y : Answer Scan) → Matches s (model-of s) x y → answer x ≡ given t → length (t .properties) ≤ places
+    go (refused k) y a e = let z : _≡_ {A = ℕ} 0 1 = cc in absurd (omega arith)
+    go (got f r) (declined j) a e = absurd a
+    go (got f r) (given x) a e =
+        let q : take-of f ≡ t = cc in
+        let k : length (f .properties .items) ≤ places = omega (arith, agreed-count (a .1), a .1 .inside .properties .ends) in
+        subst (λ u. length (u .properties) ≤ places) q k

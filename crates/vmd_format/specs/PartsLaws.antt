@@ -1,7 +1,7 @@
 -- Building from parts: what the checks let through is a well-formed take, so a built file reads back as the take that the
 -- parts mean; and what the checks turn down has a number from 5 to 12.
 use Prim.Native.Nat.{ℕ, zero, suc, _+_, _*_, _-_, _/_, _≤_, _<_, _^_}
-use mathlib.Core.Path.{_≡_, refl, ap}
+use mathlib.Core.Path.{_≡_, refl, ap, subst}
 use mathlib.Core.Bool.{Bool, true, false, _&&_, and-eq-true-iff}
 use mathlib.Core.List.{List, [], _∷_, map}
 use native.Mathlib.Omega.{arith}
@@ -20,8 +20,9 @@ use Rattle.vmd_format.specs.Read.{Step, refused, got, Codec, Manner, tab
 use Rattle.vmd_format.specs.ReadLaws.{Always, always-bind, All, CodecLaws}
 use Rattle.vmd_format.specs.Records.{Property}
 use Rattle.vmd_format.specs.RecordLaws.{GoodBone, GoodMorph, camera-lawful, light-lawful, self-shadow-lawful}
-use Rattle.vmd_format.specs.Take.{Take, read-take, write-take}
-use Rattle.vmd_format.specs.TakeLaws.{GoodProperty, property-lawful, WellFormed, take-back}
+use Rattle.vmd_format.specs.Take.{Take, write-take}
+use Rattle.vmd_format.specs.TakeLaws.{GoodProperty, property-lawful, WellFormed}
+use Rattle.vmd_format.specs.SavingLaws.{Accepted, written-accepted}
 use Rattle.vmd_format.specs.Parts.{NameTable, Parts, names-from, names-of, records-of, at-end, until-end, frames, frames-or-none, properties-of, upto, bone-at, morph-at, take-of-parts, Check, passes, fails, _next_, need, each, whole-parts, name-check, camera-check, light-check, self-shadow-check, ik-check, property-check, columns-check, counts-check, bone-check, morph-check, parts-check, built, build}
 
 -- ---- what the types of the parts give
@@ -276,12 +277,14 @@ unfolding build built
 build-refused p k e = rw e
 
 -- a built file is accepted, and reads back as the take that the parts mean
-pub build-reads-back : (m : Manner) {p : Parts} → InRange p → (s : List ℕ) → build p ≡ given s → read-take m s ≡ given (take-of-parts p)
+pub build-accepted : (m : Manner) {p : Parts} → InRange p → (s : List ℕ) → build p ≡ given s → Accepted m s (take-of-parts p)
 unfolding build built
-build-reads-back m {p} r s e = go (parts-check p) refl e
+build-accepted m {p} r s e = go (parts-check p) refl e
   where
-    go : (c : Check) → parts-check p ≡ c → built c (take-of-parts p) ≡ given s → read-take m s ≡ given (take-of-parts p)
-    go passes q e = let w : write-take (take-of-parts p) ≡ s = cc in rw w at (take-back m (take-of-parts p) (built-well-formed r q))
+    go : (c : Check) → parts-check p ≡ c → built c (take-of-parts p) ≡ given s → Accepted m s (take-of-parts p)
+    go passes q e =
+        let w : write-take (take-of-parts p) ≡ s = cc in
+        subst (λ x. Accepted m x (take-of-parts p)) w (written-accepted m (take-of-parts p) (built-well-formed r q))
     go (fails k) q e = let z : _≡_ {A = ℕ} 0 1 = cc in absurd (omega arith)
 
 -- ---- the numbers of what is turned down

@@ -1,4 +1,4 @@
--- What is written is read back, and what is read can be written: for sections of any records.
+-- What is written is bytes and is read back, and what is read can be written: for sections of any records.
 use Prim.Native.Nat.{ℕ, zero, suc, _+_, _*_, _≤_, _<_, _^_}
 use mathlib.Core.Path.{_≡_, refl, ap}
 use mathlib.Core.Bool.{Bool, true, false}
@@ -9,7 +9,7 @@ use lib.ListN.{length, drop, length-append}
 use lib.Seq.{drop-at}
 use lib.Dec.{leb}
 use Rattle.vmd_format.specs.Bytes.{u32, u32-bytes}
-use Rattle.vmd_format.specs.BytesLaws.{Bytes, bytes-drop, bytes-nil, u32-back, u32-lt}
+use Rattle.vmd_format.specs.BytesLaws.{Bytes, bytes-drop, bytes-nil, bytes-append, u32-back, u32-lt, u32-bytes-small}
 use Rattle.vmd_format.specs.Layout.{Layout}
 use Rattle.vmd_format.specs.LayoutLaws.{Lawful}
 use Rattle.vmd_format.specs.Read.{Step, refused, got, Reader, bind, Codec, whole-if, whole, fixed, many, Section, Oversized, refuse, emptied, no-section, over-count, records-if, counted-if, counted, optional, write-all, write-counted}
@@ -37,6 +37,7 @@ pub record CodecLaws {A : Type 0} (C : Codec A) (Good : A → Type 0) : Type 0 w
   pub wide : (a : A) → C .least ≤ length (C .write a)
   pub back : (a : A) (rest : List ℕ) → Good a → C .read (C .write a ++ rest) ≡ got a rest
   pub fair : (s : List ℕ) → Bytes s → Always (λ a t. Good a × Bytes t) (C .read s)
+  pub small : (a : A) → Good a → Bytes (C .write a)
 
 module _ {A : Type 0} {K : Layout A} {Good : A → Type 0} (k : Lawful K Good) where
   pub whole-back : (a : A) (rest : List ℕ) → Good a → whole K (K .encode a ++ rest) ≡ got a rest
@@ -58,7 +59,7 @@ module _ {A : Type 0} {K : Layout A} {Good : A → Type 0} (k : Lawful K Good) w
 
   pub fixed-lawful : CodecLaws (fixed K) Good
   unfolding fixed
-  fixed-lawful = record { wide = λ a. omega (arith, k .wide a); back = whole-back; fair = whole-fair }
+  fixed-lawful = record { wide = λ a. omega (arith, k .wide a); back = whole-back; fair = whole-fair; small = k .small }
 
 -- what is read of a section: a count that fits, records that can be written
 abbrev pub Sound : {A : Type 0} → (A → Type 0) → Section A → List ℕ → Type 0
@@ -92,6 +93,15 @@ module _ {A : Type 0} {C : Codec A} {Good : A → Type 0} (c : CodecLaws C Good)
   unfolding write-all
   all-wide [] = omega arith
   all-wide (a ∷ l) = simp length-append (omega (arith, c .wide a, all-wide l))
+
+  all-small : (l : List A) → All Good l → Bytes (write-all (C .write) l)
+  unfolding write-all
+  all-small [] h = bytes-nil
+  all-small (a ∷ l) h = bytes-append (C .write a) (write-all (C .write) l) (c .small a (h .0)) (all-small l (h .1))
+
+  pub counted-small : (l : List A) → All Good l → Bytes (write-counted C l)
+  unfolding write-counted
+  counted-small l h = bytes-append (u32-bytes (length l)) (write-all (C .write) l) (u32-bytes-small (length l)) (all-small l h)
 
   pub counted-back : (o : Oversized) (l : List A) (rest : List ℕ) → length l < 2 ^ 32 → All Good l
       → counted o C (write-counted C l ++ rest) ≡ got (record { start = write-all (C .write) l ++ rest; items = l }) rest

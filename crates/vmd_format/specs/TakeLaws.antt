@@ -1,4 +1,4 @@
--- What is written reads back, and what is read can be written: for whole takes, in every manner of reading.
+-- What is written is bytes and reads back, and what is read can be written: for whole takes, in every manner of reading.
 use Prim.Native.Nat.{ℕ, _+_, _≤_, _<_, _^_}
 use mathlib.Core.Path.{_≡_, refl, ap}
 use mathlib.Core.Bool.{Bool, true, false}
@@ -9,10 +9,10 @@ use lib.ListN.{length, take, drop, length-append}
 use lib.Seq.{drop-at}
 use lib.Dec.{leb}
 use Rattle.vmd_format.specs.Bytes.{u32-bytes, padded}
-use Rattle.vmd_format.specs.BytesLaws.{Bytes, bytes-drop, Name, padded-length, padded-back, name-fair}
+use Rattle.vmd_format.specs.BytesLaws.{Bytes, bytes-drop, bytes-append, all-bytes, bytes-tested, Name, padded-length, padded-small, padded-back, name-fair}
 use Rattle.vmd_format.specs.Layout.{number, flag, _⊗_}
-use Rattle.vmd_format.specs.Read.{got, bind, whole, fixed, refuse, BytesOver, ignored, turned-down, Manner, lenient, counted, optional, write-all, write-counted}
-use Rattle.vmd_format.specs.ReadLaws.{Always, always-bind, All, CodecLaws, whole-back, whole-fair, fixed-lawful, Sound, counted-back, counted-fair, optional-back, optional-fair}
+use Rattle.vmd_format.specs.Read.{got, bind, Codec, whole, fixed, refuse, BytesOver, ignored, turned-down, Manner, lenient, counted, optional, write-all, write-counted}
+use Rattle.vmd_format.specs.ReadLaws.{Always, always-bind, All, CodecLaws, whole-back, whole-fair, fixed-lawful, Sound, counted-small, counted-back, counted-fair, optional-back, optional-fair}
 use Rattle.vmd_format.specs.Records.{Property, bone, morph, camera, light, self-shadow, ik-state, property-head}
 use Rattle.vmd_format.specs.RecordLaws.{U32, GoodBone, bone-lawful, GoodMorph, morph-lawful, GoodCamera, camera-lawful, GoodLight, light-lawful, GoodSelfShadow, self-shadow-lawful, GoodIkState, ik-state-lawful, GoodHead, head-lawful}
 use Rattle.vmd_format.specs.Refusal.{file-ends-early}
@@ -44,8 +44,14 @@ property-fair s h =
     (counted-fair (fixed-lawful ik-state-lawful) (refuse file-ends-early) t (g .1)) λ x u k.
     ((g .0 .0, k .0, k .1), k .2)
 
+property-small : (p : Property) → GoodProperty p → Bytes (property .write p)
+unfolding property
+property-small p h =
+    bytes-append (property-head .encode (p .frame, p .visible)) (write-counted (fixed ik-state) (p .ik-states))
+    (head-lawful .small (p .frame, p .visible) (h .0, tt)) (counted-small (fixed-lawful ik-state-lawful) (p .ik-states) (h .2))
+
 pub property-lawful : CodecLaws property GoodProperty
-property-lawful = record { wide = property-wide; back = property-back; fair = property-fair }
+property-lawful = record { wide = property-wide; back = property-back; fair = property-fair; small = property-small }
 
 pub record WellFormed (t : Take) : Type 0 where
   pub model : Name 20 (t .model)
@@ -55,6 +61,37 @@ pub record WellFormed (t : Take) : Type 0 where
   pub lights : (length (t .lights) < 2 ^ 32) × All GoodLight (t .lights)
   pub self-shadows : (length (t .self-shadows) < 2 ^ 32) × All GoodSelfShadow (t .self-shadows)
   pub properties : (length (t .properties) < 2 ^ 32) × All GoodProperty (t .properties)
+
+-- what is written of a well-formed take is bytes
+record Small (s : List ℕ) : Type 0 where
+  small : Bytes s
+
+infixr 60 _then_
+_then_ : {s t : List ℕ} → Small s → Small t → Small (s ++ t)
+_then_ {s} {t} h k = record { small = bytes-append s t (h .small) (k .small) }
+
+section-small : {A : Type 0} {C : Codec A} {Good : A → Type 0} → CodecLaws C Good → (l : List A) → (length l < 2 ^ 32) × All Good l → Small (write-counted C l)
+section-small c l h = record { small = counted-small c l (h .1) }
+
+header-small : (m : List ℕ) → Name 20 m → Small (write-header m)
+unfolding write-header magic all-bytes
+header-small m h =
+    let start = magic ++ (0 ∷ 0 ∷ 0 ∷ 0 ∷ []) in
+    record { small = bytes-append start (padded 20 m) (bytes-tested start refl) (padded-small 20 m (h .small)) }
+
+written-small : (t : Take) → WellFormed t → Small (write-take t)
+unfolding write-take write-sections
+written-small t w =
+    header-small (t .model) (w .model)
+    then section-small (fixed-lawful bone-lawful) (t .bones) (w .bones)
+    then section-small (fixed-lawful morph-lawful) (t .morphs) (w .morphs)
+    then section-small (fixed-lawful camera-lawful) (t .cameras) (w .cameras)
+    then section-small (fixed-lawful light-lawful) (t .lights) (w .lights)
+    then section-small (fixed-lawful self-shadow-lawful) (t .self-shadows) (w .self-shadows)
+    then section-small property-lawful (t .properties) (w .properties)
+
+pub take-small : (t : Take) → WellFormed t → Bytes (write-take t)
+take-small t w = written-small t w .small
 
 header-back : (m rest : List ℕ) → Name 20 m → header (write-header m ++ rest) ≡ got m rest
 unfolding write-header header header-if magic-if model-if magic same

@@ -1,124 +1,116 @@
 -- "With the file's own opening and scratch, the calls for records, names and interpolation bytes return just these, and the
--- file's model name": what the contracts of the calls say of an accepted file, section by section and number by number.
+-- file's model name": what the contracts of the calls say of an accepted file, call by call and number by number, in every
+-- manner of reading.
 use Prim.Native.Nat.{ℕ, _≤_, _<_}
 use mathlib.Core.Path.{_≡_}
 use mathlib.Core.List.{List, []}
 use lib.ListN.{length, getD}
+use Rattle.vmd_format.specs.Layout.{Layout}
 use Rattle.vmd_format.specs.Refusal.{outside}
-use Rattle.vmd_format.specs.Answer.{declined, given, map-answer}
-use Rattle.vmd_format.specs.Records.{Bone, Morph, Camera, Light, SelfShadow, IkState, Property, bone, morph, camera, light, self-shadow}
-use Rattle.vmd_format.specs.Read.{lenient}
+use Rattle.vmd_format.specs.Answer.{Answer, declined, given, map-answer}
+use Rattle.vmd_format.specs.Records.{IkState, Property, bone, morph, camera, light, self-shadow}
+use Rattle.vmd_format.specs.Read.{Manner}
 use Rattle.vmd_format.specs.Take.{Take, read-take}
-use Rattle.vmd_format.specs.Opening.{open-file, scratch-after}
+use Rattle.vmd_format.specs.Opening.{Part, Opening, open-file, scratch-after}
 use Rattle.vmd_format.specs.Fetch.{fetch, or-empty, model-of, fetch-property, fetch-ik-state}
-use Rattle.vmd_format.specs.FetchLaws.{Own, own-records, head-of, fetches-fields, fetches-part, past-fields, past-part}
+use Rattle.vmd_format.specs.FetchLaws.{Fetches, FetchesProperties, own-records, head-of, fetches-fields, fetches-part, past-fields, past-part}
 use Rattle.vmd_records.specs.Fields.{bone-fields, morph-fields, camera-fields, light-floats, light-bits, self-shadow-fields, property-fields, ik-fields}
-use Rattle.vmd_reader.specs.declared.VmdOpening.{VmdOpening}
-use Rattle.vmd_reader.specs.Meaning.{opening-is}
 
--- the file s says the take t, and opening it with the scratch gave o
-module _ (s scratch : List ℕ) (o : VmdOpening) (t : Take)
-    (reads : read-take lenient s ≡ given t) (opened : open-file lenient s (length scratch) ≡ given (opening-is o)) where
-  own : Own s (opening-is o) (scratch-after lenient s scratch) t
-  own = own-records lenient s scratch (opening-is o) t reads opened
+-- ---- definitions
 
-  pub own-bone : (i : ℕ) (d : Bone) → i < length (t .bones)
-      → map-answer bone-fields (fetch bone (opening-is o .scan .bones) i s) ≡ given (bone-fields (getD (t .bones) i d))
-  own-bone i d k = fetches-fields (own .bones) bone-fields i d k
+-- a call for records by number: the fields of each record of a list, and refusal 4 at and above its length
+pub record Gives {A B : Type 0} (fields : A → B) (l : List A) (call : ℕ → Answer B) : Type 0 where
+  pub own : (i : ℕ) (d : A) → i < length l → call i ≡ given (fields (getD l i d))
+  pub past : (i : ℕ) → length l ≤ i → call i ≡ declined outside
 
-  pub past-bone : (i : ℕ) → length (t .bones) ≤ i → map-answer bone-fields (fetch bone (opening-is o .scan .bones) i s) ≡ declined outside
-  past-bone i k = past-fields (own .bones) bone-fields i k
+-- a call for parts of the file by number: the part of each record of a list, and none at and above its length
+pub record GivesPart {A : Type 0} (part : A → List ℕ) (l : List A) (call : ℕ → List ℕ) : Type 0 where
+  pub own : (i : ℕ) (d : A) → i < length l → call i ≡ part (getD l i d)
+  pub past : (i : ℕ) → length l ≤ i → call i ≡ []
 
-  pub own-morph : (i : ℕ) (d : Morph) → i < length (t .morphs)
-      → map-answer morph-fields (fetch morph (opening-is o .scan .morphs) i s) ≡ given (morph-fields (getD (t .morphs) i d))
-  own-morph i d k = fetches-fields (own .morphs) morph-fields i d k
+-- what each call answers for the file s, with an opening o and a scratch, in the words of its contract: the take t
+pub record Calls (s : List ℕ) (o : Opening) (scratch : List ℕ) (t : Take) : Type 0 where
+  pub bone-frame : Gives bone-fields (t .bones) (λ i. map-answer bone-fields (fetch bone (o .scan .bones) i s))
+  pub morph-frame : Gives morph-fields (t .morphs) (λ i. map-answer morph-fields (fetch morph (o .scan .morphs) i s))
+  pub camera-frame : Gives camera-fields (t .cameras) (λ i. map-answer camera-fields (fetch camera (o .scan .cameras) i s))
+  pub light-frame : Gives light-floats (t .lights) (λ i. map-answer light-floats (fetch light (o .scan .lights) i s))
+  pub light-frame-bits : Gives light-bits (t .lights) (λ i. map-answer light-bits (fetch light (o .scan .lights) i s))
+  pub self-shadow-frame :
+      Gives self-shadow-fields (t .self-shadows) (λ i. map-answer self-shadow-fields (fetch self-shadow (o .scan .self-shadows) i s))
+  pub property-frame :
+      Gives (λ p. property-fields (head-of p)) (t .properties) (λ i. map-answer property-fields (fetch-property (o .scan .properties) scratch i s))
+  pub ik-state : (i : ℕ) (d : Property) → i < length (t .properties)
+      → Gives ik-fields (getD (t .properties) i d .ik-states) (λ j. map-answer ik-fields (fetch-ik-state (o .scan .properties) scratch i j s))
+  pub ik-state-past : (i j : ℕ) → length (t .properties) ≤ i
+      → map-answer ik-fields (fetch-ik-state (o .scan .properties) scratch i j s) ≡ declined outside
+  pub bone-name : GivesPart (λ x. x .name) (t .bones) (λ i. or-empty (map-answer (λ x. x .name) (fetch bone (o .scan .bones) i s)))
+  pub bone-interpolation :
+      GivesPart (λ x. x .interpolation) (t .bones) (λ i. or-empty (map-answer (λ x. x .interpolation) (fetch bone (o .scan .bones) i s)))
+  pub morph-name : GivesPart (λ x. x .name) (t .morphs) (λ i. or-empty (map-answer (λ x. x .name) (fetch morph (o .scan .morphs) i s)))
+  pub camera-interpolation :
+      GivesPart (λ x. x .interpolation) (t .cameras) (λ i. or-empty (map-answer (λ x. x .interpolation) (fetch camera (o .scan .cameras) i s)))
+  pub ik-name : (i : ℕ) (d : Property) → i < length (t .properties)
+      → GivesPart (λ x. x .name) (getD (t .properties) i d .ik-states)
+      (λ j. or-empty (map-answer (λ x. x .name) (fetch-ik-state (o .scan .properties) scratch i j s)))
+  pub ik-name-past : (i j : ℕ) → length (t .properties) ≤ i
+      → or-empty (map-answer (λ x. x .name) (fetch-ik-state (o .scan .properties) scratch i j s)) ≡ []
+  pub model-name : model-of s ≡ t .model
 
-  pub past-morph : (i : ℕ) → length (t .morphs) ≤ i → map-answer morph-fields (fetch morph (opening-is o .scan .morphs) i s) ≡ declined outside
-  past-morph i k = past-fields (own .morphs) morph-fields i k
+-- ---- the calls of an accepted file
 
-  pub own-camera : (i : ℕ) (d : Camera) → i < length (t .cameras)
-      → map-answer camera-fields (fetch camera (opening-is o .scan .cameras) i s) ≡ given (camera-fields (getD (t .cameras) i d))
-  own-camera i d k = fetches-fields (own .cameras) camera-fields i d k
+module _ {A : Type 0} {K : Layout A} {p : Part} {s : List ℕ} {l : List A} (h : Fetches K p s l) where
+  gives : {B : Type 0} (fields : A → B) → Gives fields l (λ i. map-answer fields (fetch K p i s))
+  gives fields = record { own = fetches-fields h fields; past = past-fields h fields }
 
-  pub past-camera : (i : ℕ) → length (t .cameras) ≤ i → map-answer camera-fields (fetch camera (opening-is o .scan .cameras) i s) ≡ declined outside
-  past-camera i k = past-fields (own .cameras) camera-fields i k
+  gives-part : (part : A → List ℕ) → GivesPart part l (λ i. or-empty (map-answer part (fetch K p i s)))
+  gives-part part = record { own = fetches-part h part; past = past-part h part }
 
-  pub own-light : (i : ℕ) (d : Light) → i < length (t .lights)
-      → map-answer light-floats (fetch light (opening-is o .scan .lights) i s) ≡ given (light-floats (getD (t .lights) i d))
-  own-light i d k = fetches-fields (own .lights) light-floats i d k
-
-  pub past-light : (i : ℕ) → length (t .lights) ≤ i → map-answer light-floats (fetch light (opening-is o .scan .lights) i s) ≡ declined outside
-  past-light i k = past-fields (own .lights) light-floats i k
-
-  pub own-light-bits : (i : ℕ) (d : Light) → i < length (t .lights)
-      → map-answer light-bits (fetch light (opening-is o .scan .lights) i s) ≡ given (light-bits (getD (t .lights) i d))
-  own-light-bits i d k = fetches-fields (own .lights) light-bits i d k
-
-  pub past-light-bits : (i : ℕ) → length (t .lights) ≤ i → map-answer light-bits (fetch light (opening-is o .scan .lights) i s) ≡ declined outside
-  past-light-bits i k = past-fields (own .lights) light-bits i k
-
-  pub own-self-shadow : (i : ℕ) (d : SelfShadow) → i < length (t .self-shadows)
-      → map-answer self-shadow-fields (fetch self-shadow (opening-is o .scan .self-shadows) i s) ≡ given (self-shadow-fields (getD (t .self-shadows) i d))
-  own-self-shadow i d k = fetches-fields (own .self-shadows) self-shadow-fields i d k
-
-  pub past-self-shadow : (i : ℕ) → length (t .self-shadows) ≤ i → map-answer self-shadow-fields (fetch self-shadow (opening-is o .scan .self-shadows) i s) ≡ declined outside
-  past-self-shadow i k = past-fields (own .self-shadows) self-shadow-fields i k
-
-  pub own-bone-name : (i : ℕ) (d : Bone) → i < length (t .bones)
-      → or-empty (map-answer (λ x. x .name) (fetch bone (opening-is o .scan .bones) i s)) ≡ getD (t .bones) i d .name
-  own-bone-name i d k = fetches-part (own .bones) (λ x. x .name) i d k
-
-  pub past-bone-name : (i : ℕ) → length (t .bones) ≤ i → or-empty (map-answer (λ x. x .name) (fetch bone (opening-is o .scan .bones) i s)) ≡ []
-  past-bone-name i k = past-part (own .bones) (λ x. x .name) i k
-
-  pub own-bone-interpolation : (i : ℕ) (d : Bone) → i < length (t .bones)
-      → or-empty (map-answer (λ x. x .interpolation) (fetch bone (opening-is o .scan .bones) i s)) ≡ getD (t .bones) i d .interpolation
-  own-bone-interpolation i d k = fetches-part (own .bones) (λ x. x .interpolation) i d k
-
-  pub past-bone-interpolation : (i : ℕ) → length (t .bones) ≤ i → or-empty (map-answer (λ x. x .interpolation) (fetch bone (opening-is o .scan .bones) i s)) ≡ []
-  past-bone-interpolation i k = past-part (own .bones) (λ x. x .interpolation) i k
-
-  pub own-morph-name : (i : ℕ) (d : Morph) → i < length (t .morphs)
-      → or-empty (map-answer (λ x. x .name) (fetch morph (opening-is o .scan .morphs) i s)) ≡ getD (t .morphs) i d .name
-  own-morph-name i d k = fetches-part (own .morphs) (λ x. x .name) i d k
-
-  pub past-morph-name : (i : ℕ) → length (t .morphs) ≤ i → or-empty (map-answer (λ x. x .name) (fetch morph (opening-is o .scan .morphs) i s)) ≡ []
-  past-morph-name i k = past-part (own .morphs) (λ x. x .name) i k
-
-  pub own-camera-interpolation : (i : ℕ) (d : Camera) → i < length (t .cameras)
-      → or-empty (map-answer (λ x. x .interpolation) (fetch camera (opening-is o .scan .cameras) i s)) ≡ getD (t .cameras) i d .interpolation
-  own-camera-interpolation i d k = fetches-part (own .cameras) (λ x. x .interpolation) i d k
-
-  pub past-camera-interpolation : (i : ℕ) → length (t .cameras) ≤ i → or-empty (map-answer (λ x. x .interpolation) (fetch camera (opening-is o .scan .cameras) i s)) ≡ []
-  past-camera-interpolation i k = past-part (own .cameras) (λ x. x .interpolation) i k
-
-  pub own-property : (i : ℕ) (d : Property) → i < length (t .properties)
-      → map-answer property-fields (fetch-property (opening-is o .scan .properties) (scratch-after lenient s scratch) i s)
-      ≡ given (property-fields (head-of (getD (t .properties) i d)))
+module _ {p : Part} {scratch s : List ℕ} {l : List Property} (h : FetchesProperties p scratch s l) where
+  gives-frame : Gives (λ x. property-fields (head-of x)) l (λ i. map-answer property-fields (fetch-property p scratch i s))
   unfolding map-answer
-  own-property i d k = rw (own .properties .own i d k)
+  gives-frame = record { own = λ i d k. rw (h .own i d k); past = λ i k. rw (h .past i k) }
 
-  pub past-property : (i : ℕ) → length (t .properties) ≤ i
-      → map-answer property-fields (fetch-property (opening-is o .scan .properties) (scratch-after lenient s scratch) i s) ≡ declined outside
-  unfolding map-answer
-  past-property i k = rw (own .properties .past i k)
+  module _ {B : Type 0} (fields : IkState → B) where
+    gives-state : (i : ℕ) (d : Property) → i < length l
+        → Gives fields (getD l i d .ik-states) (λ j. map-answer fields (fetch-ik-state p scratch i j s))
+    unfolding map-answer
+    gives-state i d k = record { own = λ j e n. rw (h .own-state i j d e k n); past = λ j n. rw (h .past-state i j d k n) }
 
-  pub own-ik-state : (i j : ℕ) (d : Property) (e : IkState) → i < length (t .properties) → j < length (getD (t .properties) i d .ik-states)
-      → map-answer ik-fields (fetch-ik-state (opening-is o .scan .properties) (scratch-after lenient s scratch) i j s)
-      ≡ given (ik-fields (getD (getD (t .properties) i d .ik-states) j e))
-  unfolding map-answer
-  own-ik-state i j d e k l = rw (own .properties .own-state i j d e k l)
+    past-state : (i j : ℕ) → length l ≤ i → map-answer fields (fetch-ik-state p scratch i j s) ≡ declined outside
+    unfolding map-answer
+    past-state i j k = rw (h .past-frame i j k)
 
-  pub own-ik-name : (i j : ℕ) (d : Property) (e : IkState) → i < length (t .properties) → j < length (getD (t .properties) i d .ik-states)
-      → or-empty (map-answer (λ x. x .name) (fetch-ik-state (opening-is o .scan .properties) (scratch-after lenient s scratch) i j s))
-      ≡ getD (getD (t .properties) i d .ik-states) j e .name
-  unfolding map-answer or-empty
-  own-ik-name i j d e k l = rw (own .properties .own-state i j d e k l)
+  gives-name : (i : ℕ) (d : Property) → i < length l
+      → GivesPart (λ x. x .name) (getD l i d .ik-states) (λ j. or-empty (map-answer (λ x. x .name) (fetch-ik-state p scratch i j s)))
+  unfolding or-empty
+  gives-name i d k =
+      let g = gives-state (λ x. x .name) i d k in
+      record { own = λ j e n. rw (g .own j e n); past = λ j n. rw (g .past j n) }
 
-  pub past-ik-state : (i j : ℕ) (d : Property) → i < length (t .properties) → length (getD (t .properties) i d .ik-states) ≤ j
-      → map-answer ik-fields (fetch-ik-state (opening-is o .scan .properties) (scratch-after lenient s scratch) i j s) ≡ declined outside
-  unfolding map-answer
-  past-ik-state i j d k l = rw (own .properties .past-state i j d k l)
+  past-name : (i j : ℕ) → length l ≤ i → or-empty (map-answer (λ x. x .name) (fetch-ik-state p scratch i j s)) ≡ []
+  unfolding or-empty
+  past-name i j k = rw (past-state (λ x. x .name) i j k)
 
-  pub own-model : model-of s ≡ t .model
-  own-model = own .model
+-- of a file that reads as the take t, with the opening that was given and the scratch that this left
+pub own-calls : (m : Manner) (s scratch : List ℕ) (o : Opening) (t : Take) → read-take m s ≡ given t
+    → open-file m s (length scratch) ≡ given o → Calls s o (scratch-after m s scratch) t
+own-calls m s scratch o t reads opened =
+    let h = own-records m s scratch o t reads opened in
+    record {
+      bone-frame = gives (h .bones) bone-fields;
+      morph-frame = gives (h .morphs) morph-fields;
+      camera-frame = gives (h .cameras) camera-fields;
+      light-frame = gives (h .lights) light-floats;
+      light-frame-bits = gives (h .lights) light-bits;
+      self-shadow-frame = gives (h .self-shadows) self-shadow-fields;
+      property-frame = gives-frame (h .properties);
+      ik-state = gives-state (h .properties) ik-fields;
+      ik-state-past = past-state (h .properties) ik-fields;
+      bone-name = gives-part (h .bones) (λ x. x .name);
+      bone-interpolation = gives-part (h .bones) (λ x. x .interpolation);
+      morph-name = gives-part (h .morphs) (λ x. x .name);
+      camera-interpolation = gives-part (h .cameras) (λ x. x .interpolation);
+      ik-name = gives-name (h .properties);
+      ik-name-past = past-name (h .properties);
+      model-name = h .model;
+    }

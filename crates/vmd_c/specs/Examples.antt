@@ -1,0 +1,96 @@
+-- What the slots hold, with other values in every field and place, so that one out of its place shows.
+use Prim.Native.Nat.{ℕ}
+use mathlib.Core.Path.{_≡_, refl}
+use mathlib.Core.Bool.{true, false}
+use mathlib.Core.List.{[], _∷_}
+use lib.IntN.{pos}
+use lib.Ieee.{nan, fin, ofBits}
+use Rattle.vmd_format.specs.Refusal.{file-ends-early, output-too-short}
+use Rattle.vmd_format.specs.Answer.{declined, given}
+use Rattle.vmd_format.specs.Records.{Light}
+use Rattle.vmd_format.specs.Opening.{Scan, Opening}
+use Rattle.vmd_format.specs.Computed.{computed}
+use Rattle.vmd_c.specs.Meaning.{status, slot-after, counts-of, places-of, totals-of, part-at, scan-at, bone-words, morph-words, camera-words, light-values, light-words, self-shadow-words, property-words, part-words, joined-words, file-of}
+
+-- 0, or the number; the new value, or the old
+pub returned :
+    (status {A = ℕ} (given 9) ≡ 0) × (status {A = ℕ} (declined file-ends-early) ≡ 1) × (status {A = ℕ} (declined output-too-short) ≡ 13)
+    × (slot-after {A = ℕ} {B = ℕ} 5 (λ n. n) (given 9) ≡ 9) × (slot-after {A = ℕ} {B = ℕ} 5 (λ n. n) (declined output-too-short) ≡ 5)
+unfolding status slot-after
+returned = (refl, refl, refl, refl, refl)
+
+-- ---- an opening
+
+abbrev sections : ℕ → Scan
+sections ik = record {
+  bones = record { count = 1; place = 54 };
+  morphs = record { count = 2; place = 169 };
+  cameras = record { count = 3; place = 265 };
+  lights = record { count = 4; place = 391 };
+  self-shadows = record { count = 5; place = 535 };
+  properties = record { count = 6; place = 593 };
+  ik-states = ik;
+}
+
+abbrev opening : Opening
+opening = record { scan = sections 7; largest-frame = 8 }
+
+pub an-opening :
+    (counts-of opening ≡ 1 ∷ 2 ∷ 3 ∷ 4 ∷ 5 ∷ 6 ∷ [])
+    × (places-of opening ≡ 54 ∷ 169 ∷ 265 ∷ 391 ∷ 535 ∷ 593 ∷ [])
+    × (totals-of opening ≡ 7 ∷ 8 ∷ [])
+    × (scan-at (1 ∷ 2 ∷ 3 ∷ 4 ∷ 5 ∷ 6 ∷ []) (54 ∷ 169 ∷ 265 ∷ 391 ∷ 535 ∷ 593 ∷ []) ≡ sections 0)
+unfolding counts-of places-of totals-of part-at scan-at
+an-opening = (refl, refl, refl, refl)
+
+-- ---- records
+
+pub a-bone :
+    bone-words (record { name = 65 ∷ []; frame = 1; tx = 2; ty = 3; tz = 4; rx = 5; ry = 6; rz = 7; rw = 8; interpolation = 9 ∷ [] })
+    ≡ 1 ∷ 2 ∷ 3 ∷ 4 ∷ 5 ∷ 6 ∷ 7 ∷ 8 ∷ []
+unfolding bone-words
+a-bone = refl
+
+pub a-morph : morph-words (record { name = 65 ∷ []; frame = 1; weight = 2 }) ≡ 1 ∷ 2 ∷ []
+unfolding morph-words
+a-morph = refl
+
+-- perspective comes as 1 where it is true
+pub a-camera :
+    (camera-words (record { frame = 1; distance = 2; px = 3; py = 4; pz = 5; rx = 6; ry = 7; rz = 8; interpolation = 9 ∷ []; fov = 10; perspective = true })
+    ≡ 1 ∷ 2 ∷ 3 ∷ 4 ∷ 5 ∷ 6 ∷ 7 ∷ 8 ∷ 10 ∷ 1 ∷ [])
+    × (camera-words (record { frame = 1; distance = 2; px = 3; py = 4; pz = 5; rx = 6; ry = 7; rz = 8; interpolation = []; fov = 10; perspective = false })
+    ≡ 1 ∷ 2 ∷ 3 ∷ 4 ∷ 5 ∷ 6 ∷ 7 ∷ 8 ∷ 10 ∷ 0 ∷ [])
+unfolding computed camera-words
+a-camera = (refl, refl)
+
+-- 1, 2, 3, -1, -0 and a NaN
+abbrev a-light-record : Light
+a-light-record = record { frame = 7; red = 0x3f800000; green = 0x40000000; blue = 0x40400000; dx = 0xbf800000; dy = 0x80000000; dz = 0x7f800001 }
+
+pub a-light :
+    (light-words a-light-record ≡ 7 ∷ 0x3f800000 ∷ 0x40000000 ∷ 0x40400000 ∷ 0xbf800000 ∷ 0x80000000 ∷ 0x7f800001 ∷ [])
+    × (light-values a-light-record
+    ≡ fin false 1 (pos 0) ∷ fin false 1 (pos 1) ∷ fin false 3 (pos 0) ∷ fin true 1 (pos 0) ∷ fin true 0 (pos 0) ∷ nan ∷ [])
+unfolding light-words light-values ofBits
+a-light = (refl, refl)
+
+pub a-self-shadow : self-shadow-words (record { frame = 1; mode = 2; distance = 3 }) ≡ 1 ∷ 2 ∷ 3 ∷ []
+unfolding self-shadow-words
+a-self-shadow = refl
+
+pub a-property :
+    (property-words (record { frame = 5; visible = true; ik-count = 6 }) ≡ 5 ∷ 1 ∷ 6 ∷ [])
+    × (property-words (record { frame = 5; visible = false; ik-count = 6 }) ≡ 5 ∷ 0 ∷ 6 ∷ [])
+unfolding computed property-words
+a-property = (refl, refl)
+
+-- ---- parts
+
+-- where and how long, 0, 0 for none; of a joined name first in which file
+pub parts :
+    (part-words 30 (77 ∷ 105 ∷ []) ≡ 30 ∷ 2 ∷ []) × (part-words 30 [] ≡ 0 ∷ 0 ∷ [])
+    × (joined-words (77 ∷ 105 ∷ []) (78 ∷ []) ≡ 0 ∷ 30 ∷ 2 ∷ []) × (joined-words [] (78 ∷ []) ≡ 1 ∷ 30 ∷ 1 ∷ []) × (joined-words [] [] ≡ 0 ∷ 0 ∷ 0 ∷ [])
+    × (file-of (1 ∷ []) (2 ∷ []) 0 ≡ 1 ∷ []) × (file-of (1 ∷ []) (2 ∷ []) 1 ≡ 2 ∷ [])
+unfolding part-words joined-words file-of
+parts = (refl, refl, refl, refl, refl, refl, refl)

@@ -1,0 +1,62 @@
+-- What export and joining answer and leave in an output, of takes that are written out: an output that is longer keeps its
+-- tail, one that is a byte short is refused and kept, and what a refused file leaves.
+use Prim.Native.Nat.{ℕ}
+use mathlib.Core.Path.{_≡_, refl}
+use mathlib.Core.List.{List, [], _∷_, _++_}
+use lib.ListN.{replicate}
+use Rattle.vmd_format.specs.Refusal.{file-ends-early, magic-differs, output-too-short}
+use Rattle.vmd_format.specs.Answer.{declined, given}
+use Rattle.vmd_format.specs.Read.{lenient}
+use Rattle.vmd_format.specs.Computed.{computed, start, fours, u0, u1, morph-bytes}
+use Rattle.vmd_scan.specs.declared.VmdRefusal.the-variants.{OutputTooShort}
+use Rattle.vmd_output.specs.declared.VmdWritten.the-variants.{Refused, Bytes}
+use Rattle.vmd_output.specs.Meaning.{written-answer}
+use Rattle.vmd_export.specs.Saved.{exported-answer, exported-output, joined-answer, joined-output, export-size, join-size}
+
+-- a take of one morph under a letter, with bytes after its name, and as it is written
+abbrev morph-take : ℕ → ℕ → List ℕ
+morph-take c j = start ++ u0 ++ u1 ++ morph-bytes c j 9
+
+abbrev written : List ℕ → List ℕ
+written morphs = start ++ u0 ++ morphs ++ u0 ++ u0 ++ u0 ++ u0
+
+-- 97 bytes into an output of 99
+pub exported-whole :
+    (exported-answer lenient (morph-take 66 88) (replicate 99 7) ≡ given 97)
+    × (exported-output lenient (morph-take 66 88) (replicate 99 7) ≡ written (u1 ++ morph-bytes 66 0 9) ++ (7 ∷ 7 ∷ []))
+    × (export-size lenient (morph-take 66 88) ≡ given 97)
+unfolding computed
+exported-whole = (refl, refl, refl)
+
+-- an output of 96, and a file that ends early
+pub export-refused :
+    (exported-answer lenient (morph-take 66 88) (replicate 96 7) ≡ declined output-too-short)
+    × (exported-output lenient (morph-take 66 88) (replicate 96 7) ≡ replicate 96 7)
+    × (exported-answer lenient start (replicate 96 7) ≡ declined file-ends-early)
+    × (exported-output lenient start (replicate 96 7) ≡ replicate 96 7)
+    × (export-size lenient start ≡ declined file-ends-early)
+unfolding computed
+export-refused = (refl, refl, refl, refl, refl)
+
+-- 120 bytes into an output of 121: the first file's records, then the second's
+pub joined-whole :
+    (joined-answer lenient (morph-take 66 88) (morph-take 67 89) (replicate 121 7) ≡ given 120)
+    × (joined-output lenient (morph-take 66 88) (morph-take 67 89) (replicate 121 7)
+    ≡ written (fours (2 ∷ []) ++ morph-bytes 66 0 9 ++ morph-bytes 67 0 9) ++ (7 ∷ []))
+    × (join-size lenient (morph-take 66 88) (morph-take 67 89) ≡ given 120)
+unfolding computed
+joined-whole = (refl, refl, refl)
+
+-- the first file's refusal before the second's, and both before the output's
+pub join-refused :
+    (joined-answer lenient (replicate 30 65) start [] ≡ declined magic-differs)
+    × (joined-answer lenient (start ++ u0) start [] ≡ declined file-ends-early)
+    × (joined-answer lenient (start ++ u0) (start ++ u0) (replicate 73 7) ≡ declined output-too-short)
+    × (joined-output lenient (start ++ u0) (start ++ u0) (replicate 73 7) ≡ replicate 73 7)
+    × (join-size lenient (start ++ u0) (replicate 30 65) ≡ declined magic-differs)
+unfolding computed
+join-refused = (refl, refl, refl, refl, refl)
+
+-- what an answer of the code says
+pub answers : (written-answer (Bytes 74) ≡ given 74) × (written-answer (Refused OutputTooShort) ≡ declined output-too-short)
+answers = (refl, refl)
