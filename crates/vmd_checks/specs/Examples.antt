@@ -7,7 +7,7 @@ use lib.IntN.{pos}
 use lib.Ieee.{inf, fin, toBits}
 use Rattle.vmd_format.specs.Refusal.{name-unfit}
 use Rattle.vmd_format.specs.Parts.{passes, fails}
-use Rattle.vmd_scan.specs.declared.VmdRefusal.the-variants.{NameUnfit}
+use Rattle.vmd_base.specs.declared.VmdRefusal.the-variants.{NameUnfit}
 use Rattle.vmd_names.specs.declared.Check.the-variants.{Passes, Fails}
 use Rattle.vmd_names.specs.Meaning.{check-of}
 use Rattle.vmd_checks.specs.declared.Frames.the-variants.{NotWhole, Whole}

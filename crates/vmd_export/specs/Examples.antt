@@ -8,7 +8,7 @@ use Rattle.vmd_format.specs.Refusal.{file-ends-early, magic-differs, output-too
 use Rattle.vmd_format.specs.Answer.{declined, given}
 use Rattle.vmd_format.specs.Read.{lenient}
 use Rattle.vmd_format.specs.Computed.{computed, start, fours, u0, u1, morph-bytes}
-use Rattle.vmd_scan.specs.declared.VmdRefusal.the-variants.{OutputTooShort}
+use Rattle.vmd_base.specs.declared.VmdRefusal.the-variants.{OutputTooShort}
 use Rattle.vmd_output.specs.declared.VmdWritten.the-variants.{Refused, Bytes}
 use Rattle.vmd_output.specs.Meaning.{written-answer}
 use Rattle.vmd_export.specs.Saved.{exported-answer, exported-output, joined-answer, joined-output, export-size, join-size}

@@ -4,8 +4,8 @@ use mathlib.Core.Bool.{_&&_}
 use lib.Dec.{eqb, T}
 use Rattle.vmd_format.specs.Refusal.{number, outside, scratch-too-short}
 use Rattle.vmd_format.specs.Answer.{declined, given}
-use Rattle.vmd_scan.specs.Meaning.{refusal-of}
-use Rattle.vmd_scan.specs.declared.VmdRefusal.the-variants.{FileEndsEarly, MagicDiffers, ScratchTooShort, Outside, PartsNotWhole, NameUnfit, NameNotGood, NotFinite, SelfShadowUnfit, ColumnsDisagree, CountTooLarge, NameIndexTooLarge, OutputTooShort}
+use Rattle.vmd_base.specs.Meaning.{refusal-of}
+use Rattle.vmd_base.specs.declared.VmdRefusal.the-variants.{FileEndsEarly, MagicDiffers, ScratchTooShort, Outside, PartsNotWhole, NameUnfit, NameNotGood, NotFinite, SelfShadowUnfit, ColumnsDisagree, CountTooLarge, NameIndexTooLarge, OutputTooShort}
 use Rattle.vmd_reader.specs.declared.VmdOpened.the-variants as opened
 use Rattle.vmd_reader.specs.declared.VmdBoneAnswer.the-variants as bone
 use Rattle.vmd_reader.specs.declared.VmdMorphAnswer.the-variants as morph
