@@ -30,23 +30,22 @@ impl Call {
         match self {
             Call::Open => drop(black_box(Take::open(&material.file).unwrap())),
             Call::Export => drop(black_box(vmd::export_into(&material.file, out).unwrap())),
-            Call::Join => drop(black_box(vmd::join_into(&material.first, &material.second, out).unwrap())),
+            Call::Join => {
+                let (first, second) = material.halves();
+                black_box(vmd::join_into(first, second, out).unwrap());
+            }
             Call::Build => drop(black_box(material.parts().build_into(out).unwrap())),
         }
         black_box(out);
     }
 
-    /// Copies the files that the call reads or, for building, the one that it writes.
+    /// Copies the bytes that the call reads or, for building, the file that it writes.
     pub fn copy(self, material: &Material, out: &mut [u8]) {
-        let files = match self {
-            Call::Join => [&material.first[..], &material.second],
-            _ => [&material.file[..], &[]],
+        let bytes = match self {
+            Call::Join => &material.halves,
+            Call::Open | Call::Export | Call::Build => &material.file,
         };
-        let mut at = 0;
-        for file in files {
-            out[at..at + file.len()].copy_from_slice(file);
-            at += file.len();
-        }
+        out[..bytes.len()].copy_from_slice(bytes);
         black_box(out);
     }
 }

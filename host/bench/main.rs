@@ -1,16 +1,16 @@
 //! How long reading, saving, joining and building take, as multiples of a plain copy of the same bytes, in one process. The
 //! original Rust is measured beside where it is built in (feature `original`). Prints the tables of docs/PERFORMANCE.md.
 //!
-//! Times are the process's CPU time. A call and its copy are measured one after the other, in the same state of the caches:
-//! warm, each on buffers that the same run has just touched; cold, each on buffers not touched since other memory was read,
-//! twice as much as the last cache holds. In each round everything is measured once; a figure is the median over the rounds
-//! of the call's time by the copy's.
+//! Times are the process's CPU time. A call and its copy are measured one after the other, each in the same state of the
+//! caches: other memory is read, twice as much as the last cache holds, and then it runs twice. The first run is cold, on
+//! buffers not touched since; the second is warm, on buffers just touched. In each round everything is measured once; a
+//! figure is the median over the rounds of the call's time by the copy's.
 use std::fs;
 use std::hint::black_box;
 use std::process::Command;
 
 use calls::Call;
-use measure::{Other, median, seconds, warm};
+use measure::{Other, median, seconds};
 use takes::{Kind, Material, Names};
 use vmd::Take;
 
@@ -81,26 +81,19 @@ impl Case {
         unreachable!("{} is not built in", call.name());
     }
 
-    /// Every call in every round; cold, where there is other memory, and the original in the first rounds only.
-    fn times(&mut self, effort: Effort, other: Option<&Other>) -> Times {
+    /// Every call in every round, and the original in the first rounds.
+    fn times(&mut self, effort: Effort, other: &Other) -> Times {
         let mut times = Times::default();
         for round in 0..effort.rounds {
             for call in Call::ALL {
-                let copy = warm(effort.batch, || self.copy(call));
-                times.warm[call as usize].push(warm(effort.batch, || self.run(call)), copy);
-                if let Some(other) = other
-                    && round < effort.cold_rounds
-                {
-                    let copy = other.cold(|| self.copy(call));
-                    times.cold[call as usize].push(other.cold(|| self.run(call)), copy);
-                }
+                let copy = other.cold_and_warm(effort.batch, || self.copy(call));
+                let time = other.cold_and_warm(effort.batch, || self.run(call));
+                times.cold[call as usize].push(time[0], copy[0]);
+                times.warm[call as usize].push(time[1], copy[1]);
             }
-            if round < effort.original_rounds {
-                for &call in Original::BUILT {
-                    let copy = warm(effort.batch, || self.copy(Call::Open));
-                    let time = warm(effort.batch.div_ceil(8), || self.run_original(call));
-                    times.original[call as usize].push(time, copy);
-                }
+            for &call in Original::BUILT.iter().filter(|_| round < effort.original_rounds) {
+                let [_, time] = other.cold_and_warm(effort.batch.div_ceil(8), || self.run_original(call));
+                times.original[call as usize].push(time, times.warm[Call::Open as usize].copy[round as usize]);
             }
         }
         times
@@ -110,17 +103,16 @@ impl Case {
 #[derive(Clone, Copy)]
 struct Effort {
     rounds: u32,
-    cold_rounds: u32,
     original_rounds: u32,
     batch: u32,
 }
 
 fn effort(size: usize) -> Effort {
     match size {
-        0..=65_535 => Effort { rounds: 51, cold_rounds: 5, original_rounds: 21, batch: 2000 },
-        65_536..=4_194_304 => Effort { rounds: 51, cold_rounds: 5, original_rounds: 21, batch: 8 },
-        4_194_305..=67_108_864 => Effort { rounds: 25, cold_rounds: 25, original_rounds: 5, batch: 1 },
-        _ => Effort { rounds: 9, cold_rounds: 9, original_rounds: 3, batch: 1 },
+        0..=65_535 => Effort { rounds: 9, original_rounds: 9, batch: 2000 },
+        65_536..=4_194_304 => Effort { rounds: 9, original_rounds: 9, batch: 8 },
+        4_194_305..=67_108_864 => Effort { rounds: 25, original_rounds: 5, batch: 1 },
+        _ => Effort { rounds: 9, original_rounds: 3, batch: 1 },
     }
 }
 
@@ -182,20 +174,18 @@ fn cell(ratio: Option<f64>) -> String {
 type Measured = Vec<(Kind, Names, Times)>;
 
 /// The largest takes of a show, with every kind of names.
-fn full_size(size: usize) -> Measured {
-    let other = Other::new();
+fn full_size(size: usize, other: &Other) -> Measured {
     println!("\n## Takes of {}\n", shown(size));
     println!(
-        "Medians of {} rounds warm and {} cold, as multiples of a copy of the same bytes in the same state of the caches.",
-        effort(size).rounds,
-        effort(size).cold_rounds
+        "Medians of {} rounds, as multiples of a copy of the same bytes in the same state of the caches.",
+        effort(size).rounds
     );
     let calls = Call::ALL.map(|call| ["warm", "cold"].map(|state| format!("{}, {state}", call.name())));
     head(["take", "names"].into_iter().chain(calls.as_flattened().iter().map(String::as_str)));
     let mut all = Vec::new();
     for kind in Kind::ALL {
         for names in Names::ALL {
-            let times = Case::new(kind, names, size).times(effort(size), Some(&other));
+            let times = Case::new(kind, names, size).times(effort(size), other);
             let cells = Call::ALL.map(|call| [&times.warm, &times.cold].map(|state| cell(state[call as usize].ratio())));
             row([kind.name().into(), names.name().into()].into_iter().chain(cells.as_flattened().iter().cloned()));
             all.push((kind, names, times));
@@ -248,7 +238,7 @@ fn targets(all: &Measured) {
 }
 
 /// How times grow with the take, and that a fetch's does not.
-fn growth(sizes: &[usize]) {
+fn growth(sizes: &[usize], other: &Other) {
     println!("\n## Growth\n\nWarm, names padded with zeros. A fetch gives a record with its name and interpolation bytes.");
     let calls = Call::ALL.map(Call::name);
     let fetches = ["first fetch, ns", "last fetch, ns"];
@@ -256,7 +246,7 @@ fn growth(sizes: &[usize]) {
     for kind in Kind::ALL {
         for &size in sizes {
             let mut case = Case::new(kind, Names::Padded, size);
-            let times = case.times(Effort { original_rounds: 0, ..effort(size) }, None);
+            let times = case.times(Effort { original_rounds: 0, ..effort(size) }, other);
             let take = Take::open(&case.material.file).unwrap();
             let copy = times.warm[Call::Open as usize].copy.iter().copied().reduce(f64::min).unwrap();
             let speed = format!("{:.1}", case.material.file.len() as f64 / copy / 1e9);
@@ -354,13 +344,14 @@ fn main() {
     if !cfg!(feature = "original") {
         println!("\nThe original Rust is not built here, so it is not measured: `oracle/build.sh samples` lays it out.");
     }
-    let all = full_size(full);
+    let other = Other::new();
+    let all = full_size(full, &other);
     if !quick {
         targets(&all);
     }
     if !Original::BUILT.is_empty() {
         originals(full, &all);
     }
-    growth(&sizes);
+    growth(&sizes, &other);
     memory(full);
 }

@@ -115,12 +115,11 @@ pub struct Columns {
     pub weights: Vec<f32>,
 }
 
-/// A take as a file, as two halves to be joined, and as parts.
+/// A take as a file, as two equal halves to be joined, one after the other, and as parts.
 #[repr(C)]
 pub struct Material {
     pub file: Vec<u8>,
-    pub first: Vec<u8>,
-    pub second: Vec<u8>,
+    pub halves: Vec<u8>,
     pub columns: Columns,
 }
 
@@ -128,18 +127,22 @@ impl Material {
     pub fn new(kind: Kind, names: Names, size: usize) -> Material {
         let columns = columns(kind.counts(size), names);
         let half = self::columns(kind.counts(size.div_ceil(2)), names);
-        let first = file(&half, names);
-        Material { file: file(&columns, names), second: first.clone(), first, columns }
+        Material { file: file(&columns, names), halves: file(&half, names).repeat(2), columns }
+    }
+
+    pub fn halves(&self) -> (&[u8], &[u8]) {
+        self.halves.split_at(self.halves.len() / 2)
     }
 
     /// An output that is long enough for every call and every copy.
     pub fn output(&self) -> Vec<u8> {
+        let (first, second) = self.halves();
         let written = [
             vmd::export_size(&self.file).unwrap(),
-            vmd::join_size(&self.first, &self.second).unwrap(),
+            vmd::join_size(first, second).unwrap(),
             self.parts().size().unwrap(),
             self.file.len() as u64,
-            (self.first.len() + self.second.len()) as u64,
+            self.halves.len() as u64,
         ];
         vec![1; written.into_iter().max().unwrap() as usize]
     }
