@@ -15,11 +15,14 @@ pub mod Places
 pub mod BytesLaws
 pub mod LayoutLaws
 pub mod RecordLaws
+pub mod Rewriting
+pub mod SizedLaws
 pub mod ReadLaws
 pub mod TakeLaws
 pub mod JoinLaws
 pub mod SavingLaws
 pub mod PlacesLaws
+pub mod WalkLaws
 pub mod ScanLaws
 pub mod OpeningLaws
 pub mod FetchLaws
