@@ -11,6 +11,7 @@ use lib.ListN.{length, take, drop, getD, set, replicate, length-append, length-t
 use lib.Seq.{length-take-le, take-nil, take-take, take-at, take-add, take-length, take-append-le, drop-cons, drop-drop, drop-append-add, getD-drop, set-split, append-snoc}
 use borrow.Author.Tests.{eq-eqb, ne-eqb}
 use Rattle.vmd_format.specs.Bytes.{u32, u32-bytes, before-zero, padded}
+use Rattle.vmd_format.specs.BytesLaws.{padded-length}
 use Rattle.vmd_format.specs.Take.{same}
 use Rattle.vmd_bytes.specs.Slices.{splice, part}
 use Rattle.vmd_bytes.specs.Fields.{no-zero, canonical}
@@ -47,7 +48,7 @@ unfolding splice
 set-splice l at a h = set-split l at a h ∙ rw (append-snoc, add-one)
 
 -- one store where a write ends
-pub splice-snoc : (l : List ℕ) (at : ℕ) (u : List ℕ) (a : ℕ) → at + length u < length l → set (splice l at u) (at + length u) a ≡ splice l at (u ++ (a ∷ []))
+splice-snoc : (l : List ℕ) (at : ℕ) (u : List ℕ) (a : ℕ) → at + length u < length l → set (splice l at u) (at + length u) a ≡ splice l at (u ++ (a ∷ []))
 splice-snoc l at u a h =
     set-splice (splice l at u) (at + length u) a (rw (length-splice l at u (omega arith)) h) ∙ splice-append l at u (a ∷ []) (omega arith)
 
@@ -70,7 +71,7 @@ pub stores-splice : (l : List ℕ) (at a : ℕ) (vs : List ℕ) → at + suc (le
 stores-splice l at a vs h = rw (set-splice l at a (omega arith)) (stores-more vs l at (a ∷ []) 1 refl (omega arith))
 
 -- a write over a shorter one at the same place
-pub splice-over : (l : List ℕ) (at : ℕ) (u v : List ℕ) → length u ≤ length v → at + length v ≤ length l → splice (splice l at u) at v ≡ splice l at v
+splice-over : (l : List ℕ) (at : ℕ) (u v : List ℕ) → length u ≤ length v → at + length v ≤ length l → splice (splice l at u) at v ≡ splice l at v
 unfolding splice
 splice-over l at u v s h =
     let r : List ℕ = drop (at + length u) l in
@@ -108,7 +109,7 @@ pub part-add : (l : List ℕ) (at n m : ℕ) → part l at (n + m) ≡ part l at
 unfolding part
 part-add l at n m = simp (take-add, drop-drop)
 
-pub part-one : (l : List ℕ) (at : ℕ) → at < length l → part l at 1 ≡ getD l at 0 ∷ []
+part-one : (l : List ℕ) (at : ℕ) → at < length l → part l at 1 ≡ getD l at 0 ∷ []
 unfolding part
 part-one l at h = rw (drop-cons l at 0 h)
 
@@ -181,14 +182,14 @@ same-agrees (x ∷ a) (y ∷ b) (suc n) ha hb h =
 
 -- ---- names
 
-pub length-before-zero : (l : List ℕ) → length (before-zero l) ≤ length l
+length-before-zero : (l : List ℕ) → length (before-zero l) ≤ length l
 unfolding before-zero
 length-before-zero [] = zero-le
 length-before-zero (zero ∷ l) = zero-le
 length-before-zero (suc b ∷ l) = suc-le-suc (length-before-zero l)
 
 -- the bytes before the first zero are the first so many
-pub take-before-zero : (l : List ℕ) → take (length (before-zero l)) l ≡ before-zero l
+take-before-zero : (l : List ℕ) → take (length (before-zero l)) l ≡ before-zero l
 unfolding before-zero
 take-before-zero [] = refl
 take-before-zero (zero ∷ l) = refl
@@ -212,19 +213,13 @@ before-zero-all (x ∷ l) zero h none = absurd (not-suc-le-zero h)
 before-zero-all (zero ∷ l) (suc n) h none = absurd (none 0 (zero-lt-suc n) refl)
 before-zero-all (suc b ∷ l) (suc n) h none = ap (λ (t : List ℕ). suc b ∷ t) (before-zero-all l n (le-of-suc-le-suc h) (λ k m. none (suc k) (suc-le-suc m)))
 
-pub length-padded : (n : ℕ) (s : List ℕ) → length (padded n s) ≡ n
-unfolding padded
-length-padded zero s = refl
-length-padded (suc n) [] = ap suc (length-padded n [])
-length-padded (suc n) (b ∷ s) = ap suc (length-padded n s)
-
-pub padded-nil : (n : ℕ) → padded n [] ≡ replicate n 0
+padded-nil : (n : ℕ) → padded n [] ≡ replicate n 0
 unfolding padded
 padded-nil zero = refl
 padded-nil (suc n) = ap (λ (t : List ℕ). 0 ∷ t) (padded-nil n)
 
 -- a value that is no wider than its field
-pub padded-short : (n : ℕ) (s : List ℕ) → length s ≤ n → padded n s ≡ s ++ replicate (n - length s) 0
+padded-short : (n : ℕ) (s : List ℕ) → length s ≤ n → padded n s ≡ s ++ replicate (n - length s) 0
 unfolding padded
 padded-short n [] h = padded-nil n ∙ rw (sub-zero n)
 padded-short zero (b ∷ s) h = absurd (not-suc-le-zero h)
@@ -243,13 +238,13 @@ splice-padded l s to n h room = rw (padded-short n s h) (splice-append l to s (r
 
 -- ---- a name field piece by piece
 
-pub canonical-name : (l : List ℕ) (n : ℕ) → length l ≡ n → canonical true l ≡ padded n (before-zero l)
+canonical-name : (l : List ℕ) (n : ℕ) → length l ≡ n → canonical true l ≡ padded n (before-zero l)
 unfolding canonical
 canonical-name l n e = rw e
 
-pub length-canonical : (live : Bool) (l : List ℕ) → length (canonical live l) ≡ length l
+length-canonical : (live : Bool) (l : List ℕ) → length (canonical live l) ≡ length l
 unfolding canonical
-length-canonical true l = length-padded (length l) (before-zero l)
+length-canonical true l = padded-length (length l) (before-zero l)
 length-canonical false l = length-replicate (length l) 0
 
 pub canonical-nil : (live : Bool) → canonical live [] ≡ []
@@ -270,7 +265,7 @@ unfolding canonical
 ended-append u w = rw (length-append u w) (sym (replicate-append-replicate (length u) (length w) 0))
 
 -- a field in two pieces: the second goes by whether the name goes on after the first
-pub canonical-append : (live : Bool) (u w : List ℕ) → canonical live (u ++ w) ≡ canonical live u ++ canonical (live && no-zero u) w
+canonical-append : (live : Bool) (u w : List ℕ) → canonical live (u ++ w) ≡ canonical live u ++ canonical (live && no-zero u) w
 unfolding no-zero
 canonical-append false u w = ended-append u w
 canonical-append true [] w = rw (canonical-nil true)
@@ -288,13 +283,13 @@ no-zero-append (zero ∷ u) w = refl
 no-zero-append (suc b ∷ u) w = no-zero-append u w
 
 -- one byte
-pub canonical-one : (live : Bool) (b : ℕ) → canonical live (b ∷ []) ≡ cond (live && not (eqb b 0)) b 0 ∷ []
+canonical-one : (live : Bool) (b : ℕ) → canonical live (b ∷ []) ≡ cond (live && not (eqb b 0)) b 0 ∷ []
 unfolding canonical
 canonical-one false b = refl
 canonical-one true zero = canonical-zero [] ∙ rw (canonical-nil false)
 canonical-one true (suc b) = canonical-suc b [] ∙ rw (canonical-nil true, ne-eqb (suc b) 0 (suc-ne-zero b))
 
-pub no-zero-one : (b : ℕ) → no-zero (b ∷ []) ≡ not (eqb b 0)
+no-zero-one : (b : ℕ) → no-zero (b ∷ []) ≡ not (eqb b 0)
 unfolding no-zero
 no-zero-one zero = refl
 no-zero-one (suc b) = rw (ne-eqb (suc b) 0 (suc-ne-zero b))

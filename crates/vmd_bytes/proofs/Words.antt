@@ -55,7 +55,7 @@ u32-more s at n v h lt e =
     (rw p₃ (byte-more s (at + 3) n v (omega arith) (lt (at + 3)) (rw p₄ e)))))))
 
 -- the bytes of a number that is read
-pub digits-u32 : (s : List ℕ) (at : ℕ) → at + 4 ≤ length s → ((k : ℕ) → getD s k 0 < 256) → digits 4 (u32 (drop at s)) ≡ part s at 4
+digits-u32 : (s : List ℕ) (at : ℕ) → at + 4 ≤ length s → ((k : ℕ) → getD s k 0 < 256) → digits 4 (u32 (drop at s)) ≡ part s at 4
 unfolding digits
 digits-u32 s at h lt = ap (digits 4) (sym (add-zero (u32 (drop at s)))) ∙ u32-more s at 0 0 h lt (none 0 (at + 4))
   where
@@ -101,7 +101,7 @@ module _ (a b c d v : ℕ) (ha : a < 256) (hb : b < 256) (hc : c < 256) (hd : d 
   number-at = four-bytes ∙ sym (four-digits 0)
 
 -- the four bytes of a number
-pub u32-bytes-digits : (v : ℕ) → u32-bytes v ≡ digits 4 v
+u32-bytes-digits : (v : ℕ) → u32-bytes v ≡ digits 4 v
 u32-bytes-digits v = rw (four-split v) (number-at _ _ _ _ _ (omega arith) (omega arith) (omega arith) (omega arith))
 
 halves-at : (a b c d v : ℕ) → a < 256 → b < 256 → c < 256 → d < 256

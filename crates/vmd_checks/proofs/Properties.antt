@@ -18,15 +18,12 @@ use Rattle.vmd_format.specs.Take.{property}
 use Rattle.vmd_format.specs.Places.{Walk, walk, next-frame, Reaches}
 use Rattle.vmd_format.specs.PlacesLaws.{property-in, frames-in, WalkAgrees, walk-agrees, walk-done, walk-short, walk-over, walk-next}
 use Rattle.vmd_format.specs.ScanLaws.{frames-length}
+use Rattle.vmd_format.specs.WalkLaws.{next-above, reaches-first, frame-end, frame-more}
 use Rattle.vmd_format.specs.Parts.{Check, passes, fails, _next_, each, at-end, until-end, frames, frames-or-none, properties-of, is-got, ik-check, property-check}
 use Rattle.vmd_checks.specs.Stages.{not-whole, whole, counted}
 use Rattle.vmd_checks.proofs.Checks.{next-fails, next-on}
 
 -- ---- one frame
-
-next-above : (s : List ℕ) (at : ℕ) → at + 9 ≤ next-frame s at
-unfolding next-frame
-next-above s at = omega arith
 
 module _ (s : List ℕ) (at : ℕ) where
   walk-here : next-frame s at ≤ length s → walk s 1 at 0 ≡ given (record { next = next-frame s at; ik-states = 0 + u32 (drop (at + 5) s) })
@@ -45,7 +42,7 @@ module _ (s : List ℕ) (at : ℕ) where
           walk-over s 1 at 0 (u32 (drop (at + 5) s)) (omega arith) l refl (omega arith)
       go false e = walk-short s 1 at 0 (omega arith) (leb-false (at + 9) (length s) e)
 
-  pub read-here : next-frame s at ≤ length s → property .read (drop at s) ≡ got (property-in s at) (drop (next-frame s at) s)
+  read-here : next-frame s at ≤ length s → property .read (drop at s) ≡ got (property-in s at) (drop (next-frame s at) s)
   unfolding many bind frames-in
   read-here h = go (property .read (drop at s)) (walk s 1 at 0) (walk-here h) (walk-agrees s 1 at 0 inside)
     where
@@ -62,7 +59,7 @@ module _ (s : List ℕ) (at : ℕ) where
           let n : w .next ≡ next-frame s at = cc in
           rw (q, a .rest, n)
 
-  pub read-not : at ≤ length s → length s < next-frame s at → property .read (drop at s) ≡ refused file-ends-early
+  read-not : at ≤ length s → length s < next-frame s at → property .read (drop at s) ≡ refused file-ends-early
   unfolding many bind
   read-not l h = go (property .read (drop at s)) (walk s 1 at 0) (walk-not h) (walk-agrees s 1 at 0 l)
     where
@@ -86,21 +83,7 @@ unfolding until-end at-end
 until-cons r n [] h = absurd (omega arith)
 until-cons r n (b ∷ t) h = refl
 
--- where n frames end
-unfoldable pub frame-end : List ℕ → ℕ → ℕ → ℕ
-frame-end s zero at = at
-frame-end s (suc n) at = frame-end s n (next-frame s at)
-
 module _ (s : List ℕ) where
-  -- one more frame
-  more : (n at : ℕ) → Reaches s n at → next-frame s (frame-end s n at) ≤ length s
-      → Reaches s (suc n) at × (frame-end s (suc n) at ≡ next-frame s (frame-end s n at))
-  unfolding Reaches frame-end
-  more zero at r h = ((h, tt), refl)
-  more (suc n) at r h =
-      let m = more n (next-frame s at) (r .1) h in
-      ((r .0, m .0), m .1)
-
   front : (at n : ℕ) → next-frame s at ≤ length s
       → until-end (property .read) (suc n) (drop at s)
       ≡ bind (until-end (property .read) n (drop (next-frame s at) s)) (λ l v. got (property-in s at ∷ l) v)
@@ -128,36 +111,36 @@ module _ (s : List ℕ) where
 -- ---- a walk that counts the frames
 
 -- n frames were passed, up to here
-pub record Passed (s : List ℕ) (at n : ℕ) : Type 0 where
+pub record Counting (s : List ℕ) (at n : ℕ) : Type 0 where
   pub inside : at ≤ length s
   pub reaches : Reaches s n 0
   pub here : frame-end s n 0 ≡ at
   pub few : n ≤ at
 
 module _ {s : List ℕ} where
-  pub passed-start : Passed s 0 0
+  pub counting-start : Counting s 0 0
   unfolding Reaches frame-end
-  passed-start = record { inside = omega arith; reaches = tt; here = refl; few = omega arith }
+  counting-start = record { inside = omega arith; reaches = tt; here = refl; few = omega arith }
 
-  module _ {at n : ℕ} (g : Passed s at n) where
-    passed-cut : at < length s → length s < next-frame s at → not-whole ≡ counted (frames s)
+  module _ {at n : ℕ} (g : Counting s at n) where
+    counting-cut : at < length s → length s < next-frame s at → not-whole ≡ counted (frames s)
     unfolding counted frames
-    passed-cut h l = rw (until-cut s n (length s) 0 (omega (arith, g .few)) (g .reaches) (rw (g .here) h) (rw (g .here) l))
+    counting-cut h l = rw (until-cut s n (length s) 0 (omega (arith, g .few)) (g .reaches) (rw (g .here) h) (rw (g .here) l))
 
-    pub passed-short : at < length s → length s < at + 9 → not-whole ≡ counted (frames s)
-    passed-short h l = passed-cut h (omega (arith, next-above s at))
+    pub counting-short : at < length s → length s < at + 9 → not-whole ≡ counted (frames s)
+    counting-short h l = counting-cut h (omega (arith, next-above s at))
 
     module _ {k : ℕ} (e : k ≡ u32 (drop (at + 5) s)) where
       next-is : next-frame s at ≡ at + 9 + k * 21
       unfolding next-frame
       next-is = rw e
 
-      pub passed-over : at < length s → length s < at + 9 + k * 21 → not-whole ≡ counted (frames s)
-      passed-over h l = passed-cut h (rw next-is l)
+      pub counting-over : at < length s → length s < at + 9 + k * 21 → not-whole ≡ counted (frames s)
+      counting-over h l = counting-cut h (rw next-is l)
 
-      pub passed-turn : at + 9 + k * 21 ≤ length s → Passed s (at + 9 + k * 21) (n + 1)
-      passed-turn h =
-          let m = more s n 0 (g .reaches) (rw (g .here, next-is) h) in
+      pub counting-turn : at + 9 + k * 21 ≤ length s → Counting s (at + 9 + k * 21) (n + 1)
+      counting-turn h =
+          let m = frame-more s n 0 (g .reaches) (rw (g .here, next-is) h) in
           record {
             inside = h;
             reaches = rw add-one (m .0);
@@ -165,9 +148,9 @@ module _ {s : List ℕ} where
             few = omega (arith, g .few);
           }
 
-    pub passed-end : length s ≤ at → whole n ≡ counted (frames s)
+    pub counting-end : length s ≤ at → whole n ≡ counted (frames s)
     unfolding counted frames
-    passed-end h =
+    counting-end h =
         rw (until-walked s n (length s) 0 (omega (arith, g .few, g .inside)) (g .reaches) (g .here ∙ omega (arith, g .inside)), frames-length s n 0)
 
 -- ---- what frames until the end are
@@ -243,11 +226,6 @@ pub record Framing (s : List ℕ) (at left : ℕ) : Type 0 where
   pub reaches : Reaches s left at
   pub rest : each property-check (frames-in s left at) ≡ each property-check (properties-of s)
 
-reaches-front : (s : List ℕ) (n at : ℕ) → 0 < n → Reaches s n at → (next-frame s at ≤ length s) × Reaches s (n - 1) (next-frame s at)
-unfolding Reaches
-reaches-front s zero at h r = absurd (omega arith)
-reaches-front s (suc n) at h r = let e : suc n - 1 ≡ n = omega arith in (r .0, rw e (r .1))
-
 module _ {s : List ℕ} where
   pub framing-start : {n : ℕ} → is-got (frames s) ≡ true → n ≡ length (properties-of s) → Framing s 0 n
   framing-start e q =
@@ -257,7 +235,7 @@ module _ {s : List ℕ} where
   module _ {at left : ℕ} (g : Framing s at left) (h : 0 < left) where
     pub framing-lies : at + 9 + u32 (drop (at + 5) s) * 21 ≤ length s
     unfolding next-frame
-    framing-lies = reaches-front s left at h (g .reaches) .0
+    framing-lies = reaches-first s left at h (g .reaches) .0
 
     turns : each property-check (frames-in s left at)
         ≡ (each ik-check (table ik-state (u32 (drop (at + 5) s)) (drop (at + 9) s)) next each property-check (frames-in s (left - 1) (next-frame s at)))
@@ -275,7 +253,7 @@ module _ {s : List ℕ} where
 
       pub framing-turn : {p : ℕ} → c ≡ passes → p ≡ next-frame s at → Framing s p (left - 1)
       framing-turn q f = record {
-        reaches = rw f (reaches-front s left at h (g .reaches) .1);
+        reaches = rw f (reaches-first s left at h (g .reaches) .1);
         rest = rw f (sym (next-on _ (sym is ∙ q)) ∙ sym turns ∙ g .rest);
       }
 

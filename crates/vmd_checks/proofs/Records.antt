@@ -16,7 +16,7 @@ use Rattle.vmd_format.specs.Read.{table}
 use Rattle.vmd_format.specs.Records.{camera, light, self-shadow, ik-state}
 use Rattle.vmd_format.specs.Refusal.{Refusal, not-finite, self-shadow-unfit, name-not-good}
 use Rattle.vmd_format.specs.Parts.{Check, passes, fails, _next_, need, each, finite, records-of, no-bytes-over, camera-check, light-check, self-shadow-check, ik-check}
-use Rattle.vmd_writers.proofs.Sections.{Sized}
+use Rattle.vmd_format.specs.SizedLaws.{Sized}
 use Rattle.vmd_checks.specs.Stages.{finite-words}
 use Rattle.vmd_checks.proofs.Checks.{next-fails, next-on, need-true, need-false}
 
@@ -69,7 +69,7 @@ module _ (s : List ℕ) (at : ℕ) where
   unfolding light-check light as-record _⊗_ number finite-words
   light-there = rw (← drop-drop 4 at s)
 
-  pub self-shadow-there : need (finite-words true 1 (drop (at + 5) s) && leb (getD s (at + 4) 0) 2) self-shadow-unfit
+  self-shadow-there : need (finite-words true 1 (drop (at + 5) s) && leb (getD s (at + 4) 0) 2) self-shadow-unfit
       ≡ self-shadow-check (self-shadow .decode (drop at s))
   unfolding self-shadow-check self-shadow as-record _⊗_ number byte finite-words
   self-shadow-there =
@@ -77,7 +77,7 @@ module _ (s : List ℕ) (at : ℕ) where
       (sym (drop-drop 1 4 (drop at s) ∙ drop-drop 5 at s))
       (sym (ap (λ l. getD l 0 0) (drop-drop 4 at s) ∙ getD-drop (at + 4) s 0 0 ∙ ap (λ i. getD s i 0) (add-zero (at + 4))))
 
-  pub ik-there : need (good (before-zero (take 20 (drop at s)))) name-not-good ≡ ik-check (ik-state .decode (drop at s))
+  ik-there : need (good (before-zero (take 20 (drop at s)))) name-not-good ≡ ik-check (ik-state .decode (drop at s))
   unfolding ik-check ik-state as-record _⊗_ name
   ik-there = refl
 

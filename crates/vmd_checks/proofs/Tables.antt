@@ -17,7 +17,7 @@ use Rattle.vmd_checks.proofs.Checks.{next-fails, next-on}
 -- ---- ends
 
 module _ (n : ℕ) where
-  pub ends-le : (at : ℕ) (l : List ℕ) → ends-right at l n ≡ true → at ≤ n
+  ends-le : (at : ℕ) (l : List ℕ) → ends-right at l n ≡ true → at ≤ n
   unfolding ends-right
   ends-le at [] e = omega (arith, eqb-true at n e)
   ends-le at (x ∷ l) e =
@@ -25,7 +25,7 @@ module _ (n : ℕ) where
       omega (arith, leb-true at x (p .0), ends-le x l (p .1))
 
   -- a name begins where the one before it ends, and ends in the bytes
-  pub ends-between : (at : ℕ) (l : List ℕ) (i : ℕ) → i < length l → ends-right at l n ≡ true
+  ends-between : (at : ℕ) (l : List ℕ) (i : ℕ) → i < length l → ends-right at l n ≡ true
       → (getD (at ∷ l) i 0 ≤ getD l i 0) × (getD l i 0 ≤ n)
   unfolding ends-right
   ends-between at [] i h e = absurd (omega arith)
@@ -40,7 +40,7 @@ module _ (n : ℕ) where
     ends-turn h = rw (drop-cons l i 0 h, add-one)
 
     -- the end at a place, where those from there on are right
-    pub end-between : i < length l → ends-right at (drop i l) n ≡ true → (at ≤ getD l i 0) × (getD l i 0 ≤ n)
+    end-between : i < length l → ends-right at (drop i l) n ≡ true → (at ≤ getD l i 0) × (getD l i 0 ≤ n)
     end-between h e =
         let p = and-eq-true-iff _ _ .0 (sym (ends-turn h) ∙ e) in
         (leb-true at (getD l i 0) (p .0), ends-le (getD l i 0) (drop (i + 1) l) (p .1))
@@ -67,7 +67,7 @@ module _ {l : List ℕ} {n : ℕ} where
 
 -- ---- names
 
-pub name-there : (s : List ℕ) (at : ℕ) (l : List ℕ) (i : ℕ) → i < length l
+name-there : (s : List ℕ) (at : ℕ) (l : List ℕ) (i : ℕ) → i < length l
     → getD (names-from at l s) i [] ≡ take (getD l i 0 - getD (at ∷ l) i 0) (drop (getD (at ∷ l) i 0) s)
 unfolding names-from
 name-there s at [] i h = absurd (omega arith)

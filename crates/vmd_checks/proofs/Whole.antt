@@ -12,7 +12,7 @@ use Rattle.vmd_format.specs.Layout.{Layout}
 use Rattle.vmd_format.specs.PlacesLaws.{table-length}
 use Rattle.vmd_format.specs.Parts.{NameTable, Parts, records-of, frames, properties-of, upto, take-of-parts, Check, passes, fails, _next_, need, each, table-right, is-got, whole-parts, columns-check, counts-check, bone-check, morph-check, parts-check}
 use Rattle.vmd_format.specs.PartsLaws.{need-passes}
-use Rattle.vmd_writers.proofs.Sections.{Sized, camera-sized, light-sized, self-shadow-sized}
+use Rattle.vmd_format.specs.SizedLaws.{Sized, camera-sized, light-sized, self-shadow-sized}
 use Rattle.vmd_checks.specs.Meaning.{bits}
 use Rattle.vmd_checks.specs.Stages.{bone-columns, morph-columns, columns-right, counts-right, bone-right, morph-right, all-whole, names-right, records-right, values-right, all-columns}
 use Rattle.vmd_checks.proofs.Records.{over-none}

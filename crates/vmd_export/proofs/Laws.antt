@@ -8,7 +8,7 @@ use borrow.Author.Tests.{leb-true}
 use lib.ListN.{length}
 use Rattle.vmd_format.specs.Refusal.{Refusal, count-too-large}
 use Rattle.vmd_format.specs.Answer.{Answer, declined, given, and-then, map-answer, unless, fitted, within}
-use Rattle.vmd_format.specs.Read.{lenient, table}
+use Rattle.vmd_format.specs.Read.{Manner, table}
 use Rattle.vmd_format.specs.Take.{take-of, write-header, write-sections, write-take}
 use Rattle.vmd_format.specs.Opening.{ik-total, Scan}
 use Rattle.vmd_format.specs.Fetch.{model-of}
@@ -89,22 +89,22 @@ alone s x c n = record {
       walked = refl;
     }
 
-module _ (s : List ℕ) where
+module _ (how : Manner) (s : List ℕ) where
   alone-take : (x : Scan) → take-of-both (model-of s) s x s no-scan ≡ take-in s x
   unfolding take-in take-of-both take-of file-in records-of frames-of section-in table frames-in no-scan
   alone-take x = simp append-nil
 
-  pub export-refused : (k : Refusal) → scan-file lenient s ≡ declined k → export-file lenient s ≡ declined k
+  pub export-refused : (k : Refusal) → scan-file how s ≡ declined k → export-file how s ≡ declined k
   unfolding map-answer
-  export-refused k e = export-by-places lenient s ∙ rw e
+  export-refused k e = export-by-places how s ∙ rw e
 
-  module _ (x y : Scan) (e : scan-file lenient s ≡ given x) (f : y ≡ no-scan) where
+  module _ (x y : Scan) (e : scan-file how s ≡ given x) (f : y ≡ no-scan) where
     pub export-both : Sums x no-scan → Both s x s y
-    export-both h = rw f (alone s x (scan-scanned lenient s x e) h)
+    export-both h = rw f (alone s x (scan-scanned how s x e) h)
 
-    pub export-given : (m : List ℕ) → m ≡ model-of s → given (write-take (take-of-both m s x s y)) ≡ export-file lenient s
+    pub export-given : (m : List ℕ) → m ≡ model-of s → given (write-take (take-of-both m s x s y)) ≡ export-file how s
     unfolding map-answer
-    export-given m g = rw (f, g, alone-take x) (sym (export-by-places lenient s ∙ rw e))
+    export-given m g = rw (f, g, alone-take x) (sym (export-by-places how s ∙ rw e))
 
 -- ---- a join
 
@@ -127,35 +127,35 @@ sums-are x y e h =
       ik-states = h;
     }
 
-module _ (s t : List ℕ) where
-  pub first-refused : (k : Refusal) → scan-file lenient s ≡ declined k → declined k ≡ scan-both s t
+module _ (how : Manner) (s t : List ℕ) where
+  pub first-refused : (k : Refusal) → scan-file how s ≡ declined k → declined k ≡ scan-both how s t
   unfolding scan-both and-then
   first-refused k e = rw e
 
-  pub second-refused : (x : Scan) (k : Refusal) → scan-file lenient s ≡ given x → scan-file lenient t ≡ declined k → declined k ≡ scan-both s t
+  pub second-refused : (x : Scan) (k : Refusal) → scan-file how s ≡ given x → scan-file how t ≡ declined k → declined k ≡ scan-both how s t
   unfolding scan-both and-then
   second-refused x k e f = rw (e, f)
 
-  module _ (x y : Scan) (e : scan-file lenient s ≡ given x) (f : scan-file lenient t ≡ given y) where
-    pub both-over : sums-fit x y ≡ false → declined count-too-large ≡ scan-both s t
+  module _ (x y : Scan) (e : scan-file how s ≡ given x) (f : scan-file how t ≡ given y) where
+    pub both-over : sums-fit x y ≡ false → declined count-too-large ≡ scan-both how s t
     unfolding scan-both and-then unless
     both-over g = rw (e, f, g)
 
-    pub both-found : sums-fit x y ≡ true → given (x, y) ≡ scan-both s t
+    pub both-found : sums-fit x y ≡ true → given (x, y) ≡ scan-both how s t
     unfolding scan-both and-then unless
     both-found g = rw (e, f, g)
 
   -- what two files give that were scanned and fit
   record Found (x y : Scan) : Type 0 where
-    first : scan-file lenient s ≡ given x
-    second : scan-file lenient t ≡ given y
+    first : scan-file how s ≡ given x
+    second : scan-file how t ≡ given y
     fit : sums-fit x y ≡ true
 
-  found : (x y : Scan) → scan-both s t ≡ given (x, y) → Found x y
+  found : (x y : Scan) → scan-both how s t ≡ given (x, y) → Found x y
   unfolding scan-both and-then unless
-  found x y e = one (scan-file lenient s) (scan-file lenient t) refl refl e
+  found x y e = one (scan-file how s) (scan-file how t) refl refl e
     where
-      two : (u v : Scan) → scan-file lenient s ≡ given u → scan-file lenient t ≡ given v
+      two : (u v : Scan) → scan-file how s ≡ given u → scan-file how t ≡ given v
           → (b : Bool) → sums-fit u v ≡ b → unless {A = Scan × Scan} b count-too-large (given (u, v)) ≡ given (x, y) → Found x y
       two u v p q true r e =
           let pair : _≡_ {A = Scan × Scan} (u, v) (x, y) = cc in
@@ -164,17 +164,17 @@ module _ (s t : List ℕ) where
           record { first = p ∙ ap given a; second = q ∙ ap given c; fit = rw (← a, ← c) r }
       two u v p q false r e = let z : _≡_ {A = ℕ} 0 1 = cc in absurd (omega arith)
 
-      one : (a b : Answer Scan) → scan-file lenient s ≡ a → scan-file lenient t ≡ b
+      one : (a b : Answer Scan) → scan-file how s ≡ a → scan-file how t ≡ b
           → and-then a (λ u. and-then b (λ v. unless {A = Scan × Scan} (sums-fit u v) count-too-large (given (u, v)))) ≡ given (x, y) → Found x y
       one (declined k) b p q e = let z : _≡_ {A = ℕ} 0 1 = cc in absurd (omega arith)
       one (given u) (declined k) p q e = let z : _≡_ {A = ℕ} 0 1 = cc in absurd (omega arith)
       one (given u) (given v) p q e = two u v p q (sums-fit u v) refl e
 
-  pub both-scanned : (x y : Scan) → scan-both s t ≡ given (x, y) → length s ≤ 18446744073709551615 → length t ≤ 18446744073709551615 → Both s x t y
+  pub both-scanned : (x y : Scan) → scan-both how s t ≡ given (x, y) → length s ≤ 18446744073709551615 → length t ≤ 18446744073709551615 → Both s x t y
   both-scanned x y e h k =
       let f = found x y e in
-      let a = scan-scanned lenient s x (f .first) in
-      let b = scan-scanned lenient t y (f .second) in
+      let a = scan-scanned how s x (f .first) in
+      let b = scan-scanned how t y (f .second) in
       record {
         first = a;
         second = b;
@@ -189,10 +189,10 @@ module _ (s t : List ℕ) where
   unfolding sums-fit
   join-fitted x y a b = join-fits (take-in s x) (take-in t y) x y (scan-counts s x a) (scan-counts t y b)
 
-  join-is : join-files lenient s t
-      ≡ map-answer (λ p. write-take (take-of-both (joined-model (model-of s) (model-of t)) s (p .0) t (p .1))) (scan-both s t)
+  join-is : join-files how s t
+      ≡ map-answer (λ p. write-take (take-of-both (joined-model (model-of s) (model-of t)) s (p .0) t (p .1))) (scan-both how s t)
   unfolding scan-both and-then map-answer join-takes unless
-  join-is = join-by-places lenient s t ∙ one (scan-file lenient s) (scan-file lenient t) refl refl
+  join-is = join-by-places how s t ∙ one (scan-file how s) (scan-file how t) refl refl
     where
       bytes : Scan × Scan → List ℕ
       bytes p = write-take (take-of-both (joined-model (model-of s) (model-of t)) s (p .0) t (p .1))
@@ -202,20 +202,20 @@ module _ (s t : List ℕ) where
       two u v true = ap (λ t. given (write-take t)) (sym (joined-take u v))
       two u v false = refl
 
-      one : (a b : Answer Scan) → scan-file lenient s ≡ a → scan-file lenient t ≡ b
+      one : (a b : Answer Scan) → scan-file how s ≡ a → scan-file how t ≡ b
           → and-then a (λ x. and-then b (λ y. join-takes (take-in s x) (take-in t y)))
           ≡ map-answer bytes (and-then a (λ u. and-then b (λ v. unless (sums-fit u v) count-too-large (given (u, v)))))
       one (declined k) b p q = refl
       one (given u) (declined k) p q = refl
       one (given u) (given v) p q =
-          rw (join-fitted u v (scan-scanned lenient s u p) (scan-scanned lenient t v q)) (two u v (sums-fit u v))
+          rw (join-fitted u v (scan-scanned how s u p) (scan-scanned how t v q)) (two u v (sums-fit u v))
 
-  pub join-refused : (k : Refusal) → scan-both s t ≡ declined k → join-files lenient s t ≡ declined k
+  pub join-refused : (k : Refusal) → scan-both how s t ≡ declined k → join-files how s t ≡ declined k
   unfolding map-answer
   join-refused k e = join-is ∙ rw e
 
-  pub join-given : (x y : Scan) (m : List ℕ) → scan-both s t ≡ given (x, y) → m ≡ joined-model (model-of s) (model-of t)
-      → given (write-take (take-of-both m s x t y)) ≡ join-files lenient s t
+  pub join-given : (x y : Scan) (m : List ℕ) → scan-both how s t ≡ given (x, y) → m ≡ joined-model (model-of s) (model-of t)
+      → given (write-take (take-of-both m s x t y)) ≡ join-files how s t
   unfolding map-answer
   join-given x y m e g = rw g (sym (join-is ∙ rw e))
 

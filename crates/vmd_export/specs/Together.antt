@@ -7,7 +7,7 @@ use lib.Dec.{leb}
 use Rattle.vmd_format.specs.Refusal.{count-too-large}
 use Rattle.vmd_format.specs.Answer.{Answer, given, and-then, unless}
 use Rattle.vmd_format.specs.Records.{bone, morph, camera, light, self-shadow}
-use Rattle.vmd_format.specs.Read.{lenient, fixed, write-counted}
+use Rattle.vmd_format.specs.Read.{Manner, fixed, write-counted}
 use Rattle.vmd_format.specs.Take.{property, Take}
 use Rattle.vmd_format.specs.Opening.{Scan}
 use Rattle.vmd_format.specs.Places.{scan-file}
@@ -53,9 +53,9 @@ sum-length x y =
     (x .ik-states + y .ik-states)
 
 -- two files that are accepted and whose counts added up fit
-unfoldable pub scan-both : List ℕ → List ℕ → Answer (Scan × Scan)
-scan-both s t =
-    and-then (scan-file lenient s) λ x. and-then (scan-file lenient t) λ y. unless (sums-fit x y) count-too-large (given (x, y))
+unfoldable pub scan-both : Manner → List ℕ → List ℕ → Answer (Scan × Scan)
+scan-both m s t =
+    and-then (scan-file m s) λ x. and-then (scan-file m t) λ y. unless (sums-fit x y) count-too-large (given (x, y))
 
 -- two scanned files
 pub record Both (s : List ℕ) (x : Scan) (t : List ℕ) (y : Scan) : Type 0 where

@@ -11,14 +11,13 @@ ghost use mathlib.Core.Path.{_≡_};
 ghost use mathlib.Core.Bool.{_&&_};
 ghost use Prim.Native.Nat.{_+_};
 ghost use lib.Dec.{leb};
-ghost use lib.ListN.{length};
-ghost use Rattle.vmd_format.specs.Answer.{given, map-answer, fitted, within, left};
+ghost use Rattle.vmd_format.specs.Answer.{given, within};
 ghost use Rattle.vmd_format.specs.Read.{lenient};
 ghost use Rattle.vmd_format.specs.Take.{write-take};
 ghost use Rattle.vmd_format.specs.Fetch.{model-of};
 ghost use Rattle.vmd_format.specs.Join.{joined-model};
-ghost use Rattle.vmd_format.specs.Places.{scan-file};
-ghost use Rattle.vmd_scan.specs.Meaning.{scan-is, scan-answer};
+ghost use Rattle.vmd_base.specs.Meaning.{manner-of};
+ghost use Rattle.vmd_scan.specs.Meaning.{scan-is};
 ghost use Rattle.vmd_output.specs.Meaning.{written-answer};
 ghost use Rattle.vmd_bytes.specs.Written.{Room, Wrote};
 ghost use Rattle.vmd_export.specs.Meaning.{both-answer};
@@ -87,20 +86,13 @@ enum BothAnswer {
     Scanned(VmdSections, VmdSections),
 }
 
-// In the manner of opening.
-fn scan_one(file: &[u8]) -> ScanAnswer
-    ensures { λ r. ⌜ scan-answer r ≡ scan-file lenient (now (file .entry)) ⌝ }
-{
-    vmd_scan::scan_file(file, VmdManner::Lenient)
-}
-
 // Two files whose counts added up fit 32 bits.
-fn scan_both(first: &[u8], second: &[u8]) -> BothAnswer
-    ensures { λ r. ⌜ both-answer r ≡ scan-both (now (first .entry)) (now (second .entry)) ⌝ }
+fn scan_both(manner: VmdManner, first: &[u8], second: &[u8]) -> BothAnswer
+    ensures { λ r. ⌜ both-answer r ≡ scan-both (manner-of manner) (now (first .entry)) (now (second .entry)) ⌝ }
 {
-    match scan_one(first) {
+    match vmd_scan::scan_file(first, manner) {
         ScanAnswer::Refused(k) => BothAnswer::Refused(k),
-        ScanAnswer::Scanned(a) => match scan_one(second) {
+        ScanAnswer::Scanned(a) => match vmd_scan::scan_file(second, manner) {
             ScanAnswer::Refused(k) => BothAnswer::Refused(k),
             ScanAnswer::Scanned(b) => {
                 if sums_fit(a, b) {
@@ -114,21 +106,19 @@ fn scan_both(first: &[u8], second: &[u8]) -> BothAnswer
 
 // ---- how long an output has to be
 
-// For export_vmd_animation.
-pub fn export_vmd_size(file: &[u8]) -> VmdWritten
-    ensures { λ r. ⌜ written-answer r ≡ export-size lenient (now (file .entry)) ⌝ }
+fn export_size(manner: VmdManner, file: &[u8]) -> VmdWritten
+    ensures { λ r. ⌜ written-answer r ≡ export-size (manner-of manner) (now (file .entry)) ⌝ }
 {
-    match scan_one(file) {
+    match vmd_scan::scan_file(file, manner) {
         ScanAnswer::Refused(k) => VmdWritten::Refused(k),
         ScanAnswer::Scanned(a) => size_of_both(vmd_output::LARGEST, a, no_sections()),
     }
 }
 
-// For join_vmd_animations.
-pub fn join_vmd_size(first: &[u8], second: &[u8]) -> VmdWritten
-    ensures { λ r. ⌜ written-answer r ≡ join-size lenient (now (first .entry)) (now (second .entry)) ⌝ }
+fn join_size(manner: VmdManner, first: &[u8], second: &[u8]) -> VmdWritten
+    ensures { λ r. ⌜ written-answer r ≡ join-size (manner-of manner) (now (first .entry)) (now (second .entry)) ⌝ }
 {
-    match scan_both(first, second) {
+    match scan_both(manner, first, second) {
         BothAnswer::Refused(k) => VmdWritten::Refused(k),
         BothAnswer::Scanned(a, b) => size_of_both(vmd_output::LARGEST, a, b),
     }
@@ -204,12 +194,11 @@ fn write_take(
 
 // ---- export and joining
 
-// Writes the canonical file of a take at the front of out; a refusal leaves out as it was.
-pub fn export_vmd_animation(file: &[u8], out: &mut [u8]) -> VmdWritten
-    ensures { λ r. ⌜ written-answer r ≡ exported-answer lenient (now (file .entry)) (now (out .entry)) ⌝ }
-    ensures { λ r. ⌜ now (out .exit) ≡ exported-output lenient (now (file .entry)) (now (out .entry)) ⌝ }
+fn export(manner: VmdManner, out: &mut [u8], file: &[u8]) -> VmdWritten
+    ensures { λ r. ⌜ written-answer r ≡ exported-answer (manner-of manner) (now (file .entry)) (now (out .entry)) ⌝ }
+    ensures { λ r. ⌜ now (out .exit) ≡ exported-output (manner-of manner) (now (file .entry)) (now (out .entry)) ⌝ }
 {
-    match scan_one(file) {
+    match vmd_scan::scan_file(file, manner) {
         ScanAnswer::Refused(k) => VmdWritten::Refused(k),
         ScanAnswer::Scanned(a) => write_take(
             out,
@@ -233,12 +222,11 @@ pub fn joined_model<'a>(first: &'a [u8], second: &'a [u8]) -> &'a [u8]
     name
 }
 
-// Writes the join of two takes at the front of out; a refusal leaves out as it was.
-pub fn join_vmd_animations<'a>(first: &'a [u8], second: &'a [u8], out: &mut [u8]) -> VmdWritten
-    ensures { λ r. ⌜ written-answer r ≡ joined-answer lenient (now (first .entry)) (now (second .entry)) (now (out .entry)) ⌝ }
-    ensures { λ r. ⌜ now (out .exit) ≡ joined-output lenient (now (first .entry)) (now (second .entry)) (now (out .entry)) ⌝ }
+fn join<'a>(manner: VmdManner, out: &mut [u8], first: &'a [u8], second: &'a [u8]) -> VmdWritten
+    ensures { λ r. ⌜ written-answer r ≡ joined-answer (manner-of manner) (now (first .entry)) (now (second .entry)) (now (out .entry)) ⌝ }
+    ensures { λ r. ⌜ now (out .exit) ≡ joined-output (manner-of manner) (now (first .entry)) (now (second .entry)) (now (out .entry)) ⌝ }
 {
-    match scan_both(first, second) {
+    match scan_both(manner, first, second) {
         BothAnswer::Refused(k) => VmdWritten::Refused(k),
         BothAnswer::Scanned(a, b) => write_take(
             out,
@@ -249,4 +237,36 @@ pub fn join_vmd_animations<'a>(first: &'a [u8], second: &'a [u8], out: &mut [u8]
             b,
         ),
     }
+}
+
+// ---- the calls, which save in the manner of opening
+
+// Writes the canonical file of a take at the front of out; a refusal leaves out as it was.
+pub fn export_vmd_animation(file: &[u8], out: &mut [u8]) -> VmdWritten
+    ensures { λ r. ⌜ written-answer r ≡ exported-answer lenient (now (file .entry)) (now (out .entry)) ⌝ }
+    ensures { λ r. ⌜ now (out .exit) ≡ exported-output lenient (now (file .entry)) (now (out .entry)) ⌝ }
+{
+    export(VmdManner::Lenient, out, file)
+}
+
+// How long its output has to be.
+pub fn export_vmd_size(file: &[u8]) -> VmdWritten
+    ensures { λ r. ⌜ written-answer r ≡ export-size lenient (now (file .entry)) ⌝ }
+{
+    export_size(VmdManner::Lenient, file)
+}
+
+// Writes the join of two takes at the front of out; a refusal leaves out as it was.
+pub fn join_vmd_animations<'a>(first: &'a [u8], second: &'a [u8], out: &mut [u8]) -> VmdWritten
+    ensures { λ r. ⌜ written-answer r ≡ joined-answer lenient (now (first .entry)) (now (second .entry)) (now (out .entry)) ⌝ }
+    ensures { λ r. ⌜ now (out .exit) ≡ joined-output lenient (now (first .entry)) (now (second .entry)) (now (out .entry)) ⌝ }
+{
+    join(VmdManner::Lenient, out, first, second)
+}
+
+// How long its output has to be.
+pub fn join_vmd_size(first: &[u8], second: &[u8]) -> VmdWritten
+    ensures { λ r. ⌜ written-answer r ≡ join-size lenient (now (first .entry)) (now (second .entry)) ⌝ }
+{
+    join_size(VmdManner::Lenient, first, second)
 }

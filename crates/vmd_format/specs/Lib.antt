@@ -15,12 +15,15 @@ pub mod Places
 pub mod BytesLaws
 pub mod LayoutLaws
 pub mod RecordLaws
+pub mod Rewriting
+pub mod SizedLaws
 pub mod ReadLaws
 pub mod TakeLaws
 pub mod JoinLaws
 pub mod SavingLaws
 pub mod Alike
 pub mod PlacesLaws
+pub mod WalkLaws
 pub mod ScanLaws
 pub mod OpeningLaws
 pub mod RefusalLaws

@@ -1,10 +1,11 @@
 -- Laws of what is written: the header, and a section. Assumes nothing.
-use Prim.Native.Nat.{ℕ, _+_, _*_, _≤_}
+use Prim.Native.Nat.{ℕ, _+_}
 use mathlib.Core.Path.{_≡_, refl, _∙_}
 use mathlib.Core.List.{List, [], _∷_, _++_, append-assoc}
 use native.Mathlib.Omega.{arith}
 use lib.ListN.{length, drop, length-append}
 use Rattle.vmd_format.specs.Bytes.{u32-bytes, padded}
+use Rattle.vmd_format.specs.BytesLaws.{padded-length}
 use Rattle.vmd_format.specs.Layout.{Layout}
 use Rattle.vmd_format.specs.Answer.{left}
 use Rattle.vmd_format.specs.Read.{Codec, fixed, table, write-all, write-counted}
@@ -13,10 +14,7 @@ use Rattle.vmd_format.specs.Opening.{Part}
 use Rattle.vmd_format.specs.PlacesLaws.{table-length, frames-in}
 use Rattle.vmd_format.specs.ScanLaws.{frames-length}
 use Rattle.vmd_bytes.specs.Slices.{splice}
-use Rattle.vmd_bytes.proofs.Laws.{splice-append, length-padded}
-use Rattle.vmd_records.specs.declared.VmdKind.{VmdKind}
-use Rattle.vmd_records.specs.Kinds.{layout, size-of}
-use Rattle.vmd_writers.proofs.Sections.{section-length, kind-sized}
+use Rattle.vmd_bytes.proofs.Laws.{splice-append}
 use Rattle.vmd_bytes.specs.Written.{Room, Wrote, Rest}
 use Rattle.vmd_bytes.proofs.Writes.{rest-as}
 use Rattle.vmd_output.specs.Sections.{rows, frame-rows, records-of, frames-of}
@@ -25,7 +23,7 @@ use Rattle.vmd_output.specs.Sections.{rows, frame-rows, records-of, fram
 
 pub header-length : (m : List ℕ) → length (write-header m) ≡ 50
 unfolding write-header magic
-header-length m = omega (arith, length-padded 20 m)
+header-length m = omega (arith, padded-length 20 m)
 
 pub header-wrote : {l x y : List ℕ} (m : List ℕ) → Room l 0 (write-header m) → x ≡ splice l 0 (magic ++ (0 ∷ 0 ∷ 0 ∷ 0 ∷ []))
     → y ≡ splice x 30 (padded 20 m) → Wrote l 0 (write-header m) y 50
@@ -34,18 +32,6 @@ header-wrote {l} m h a b = record {
   holds = b ∙ rw a (splice-append l 0 (magic ++ (0 ∷ 0 ∷ 0 ∷ 0 ∷ [])) (padded 20 m) (omega (arith, h .room, header-length m)));
   ends = omega (arith, header-length m);
 }
-
--- ---- the records of one file
-
-module _ (k : VmdKind) (s : List ℕ) (p : Part) where
-  rows-length : length (rows (layout k) s p) ≡ p .count * size-of k
-  rows-length = section-length (kind-sized k) (p .count) (drop (p .place) s)
-
-  pub rows-room : {l : List ℕ} {to : ℕ} → Room l to (rows (layout k) s p) → to + p .count * size-of k ≤ length l
-  rows-room h = omega (arith, h .room, rows-length)
-
-  pub rows-wrote : {l o : List ℕ} {to z : ℕ} → z ≡ size-of k → o ≡ splice l to (rows (layout k) s p) → Wrote l to (rows (layout k) s p) o (to + p .count * z)
-  rows-wrote e h = record { holds = h; ends = rw (e, rows-length) }
 
 -- ---- a section: the count of both, the first file's records, the second's
 

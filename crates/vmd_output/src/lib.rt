@@ -12,18 +12,17 @@ use vmd_records::VmdParsedMorphFrame;
 use vmd_records::VmdParsedPropertyFrame;
 use vmd_records::VmdParsedSelfShadowFrame;
 ghost use mathlib.Core.Path.{_≡_};
+ghost use Prim.Native.Nat.{_+_};
 ghost use Rattle.vmd_format.specs.Answer.{within};
 ghost use Rattle.vmd_format.specs.Bytes.{u32-bytes};
 ghost use Rattle.vmd_format.specs.Read.{fixed, write-counted};
 ghost use Rattle.vmd_format.specs.Take.{property, write-header};
 ghost use Rattle.vmd_format.specs.Join.{file-length};
-ghost use Rattle.vmd_format.specs.Places.{Reaches};
-ghost use Rattle.vmd_format.specs.ScanLaws.{PartWithin};
 ghost use Rattle.vmd_base.specs.Meaning.{part-is};
 ghost use Rattle.vmd_records.specs.Kinds.{layout, size-of};
 ghost use Rattle.vmd_output.specs.Meaning.{written-answer};
 ghost use Rattle.vmd_bytes.specs.Written.{Room, Wrote};
-ghost use Rattle.vmd_output.specs.Sections.{Parts, Frames, rows, frame-rows, records-of, frames-of};
+ghost use Rattle.vmd_output.specs.Sections.{Parts, Frames, records-of, frames-of};
 
 // What a call that writes answers: a refusal, or how many bytes.
 pub enum VmdWritten {
@@ -35,15 +34,26 @@ pub enum VmdWritten {
 
 const COUNT_SIZE: usize = 4;
 
-const MODEL_SIZE: usize = vmd_base::HEADER_SIZE - vmd_base::MAGIC_SIZE;
-
 // A file of no records: the header and six counts.
-const LEAST_SIZE: usize = vmd_base::HEADER_SIZE + 6 * COUNT_SIZE;
+pub const LEAST_SIZE: usize = vmd_base::HEADER_SIZE + 6 * COUNT_SIZE;
 
 // The largest length of an output.
 pub const LARGEST: usize = 0xffff_ffff_ffff_ffff;
 
-// How long a file of so many records is, where that is within a limit.
+// The size of a file of so many bytes and so many more, where that is within a limit.
+pub fn size_within(limit: usize, front: usize, rest: usize) -> VmdWritten
+    ensures { λ r. ⌜ written-answer r ≡ within limit (front + rest) ⌝ }
+{
+    if limit < front {
+        return VmdWritten::Refused(VmdRefusal::OutputTooShort);
+    }
+    if limit - front < rest {
+        return VmdWritten::Refused(VmdRefusal::OutputTooShort);
+    }
+    VmdWritten::Bytes((front + rest) as u64)
+}
+
+// The size of a file of so many records. Only the IK states can be so many that the sum would not fit.
 pub fn file_size(
     limit: usize,
     bones: u32,
@@ -57,20 +67,17 @@ pub fn file_size(
     ensures { λ r. ⌜ written-answer r ≡ within limit (file-length bones morphs cameras lights «self_shadows» properties «ik_states») ⌝ }
 {
     let states = ik_states as usize;
-    let fixed = LEAST_SIZE
+    let front = LEAST_SIZE
         + VmdParsedBoneFrame::SIZE * bones as usize
         + VmdParsedMorphFrame::SIZE * morphs as usize
         + VmdParsedCameraFrame::SIZE * cameras as usize
         + VmdParsedLightFrame::SIZE * lights as usize
         + VmdParsedSelfShadowFrame::SIZE * self_shadows as usize
         + VmdParsedPropertyFrame::SIZE * properties as usize;
-    if limit < fixed {
+    if LARGEST / VmdParsedIkState::SIZE < states {
         return VmdWritten::Refused(VmdRefusal::OutputTooShort);
     }
-    if (limit - fixed) / VmdParsedIkState::SIZE < states {
-        return VmdWritten::Refused(VmdRefusal::OutputTooShort);
-    }
-    VmdWritten::Bytes((fixed + VmdParsedIkState::SIZE * states) as u64)
+    size_within(limit, front, VmdParsedIkState::SIZE * states)
 }
 
 // ---- the header, and a count
@@ -80,7 +87,7 @@ pub fn write_header(out: &mut [u8], model: &[u8]) -> usize
     ensures { λ r. ⌜ Wrote (now (out .entry)) 0 (write-header (now (model .entry))) (now (out .exit)) r ⌝ }
 {
     vmd_bytes::copy_bytes(&vmd_base::VMD_MAGIC, 0, out, 0, vmd_base::MAGIC_SIZE);
-    vmd_bytes::write_fixed_bytes(model, out, vmd_base::MAGIC_SIZE, MODEL_SIZE);
+    vmd_bytes::write_fixed_bytes(model, out, vmd_base::MAGIC_SIZE, vmd_base::MODEL_WIDTH);
     vmd_base::HEADER_SIZE
 }
 
@@ -93,17 +100,6 @@ pub fn write_count(out: &mut [u8], to: usize, n: u32) -> usize
 }
 
 // ---- a section: the count of both, then the first file's records, then the second's
-
-// The records of one.
-pub fn write_rows(out: &mut [u8], to: usize, kind: VmdKind, src: &[u8], a: VmdSection) -> usize
-    requires { ⌜ PartWithin (size-of kind) (now src) (part-is a) × Room (now out) to (rows (layout kind) (now src) (part-is a)) ⌝ }
-    ensures { λ r. ⌜ Wrote (now (out .entry)) to (rows (layout kind) (now (src .entry)) (part-is a)) (now (out .exit)) r ⌝ }
-{
-    let n = a.count as usize;
-    let size = kind.size();
-    vmd_writers::write_records(out, to, kind, src, a.place, n);
-    to + n * size
-}
 
 pub fn write_section(
     out: &mut [u8],
@@ -118,19 +114,11 @@ pub fn write_section(
     ensures { λ r. ⌜ Wrote (now (out .entry)) to (write-counted (fixed (layout kind)) (records-of (layout kind) (now (first .entry)) (part-is a) (now (second .entry)) (part-is b))) (now (out .exit)) r ⌝ }
 {
     let p = write_count(out, to, a.count + b.count);
-    let q = write_rows(out, p, kind, first, a);
-    write_rows(out, q, kind, second, b)
+    let q = vmd_writers::write_records(out, p, kind, first, a.place, a.count as usize);
+    vmd_writers::write_records(out, q, kind, second, b.place, b.count as usize)
 }
 
-// Property frames with their IK states: those of one.
-pub fn write_frames(out: &mut [u8], to: usize, src: &[u8], a: VmdSection) -> usize
-    requires { ⌜ Reaches (now src) (part-is a .count) (part-is a .place) × Room (now out) to (frame-rows (now src) (part-is a)) ⌝ }
-    ensures { λ r. ⌜ Wrote (now (out .entry)) to (frame-rows (now (src .entry)) (part-is a)) (now (out .exit)) r ⌝ }
-{
-    let n = a.count as usize;
-    vmd_writers::write_properties(src, a.place, out, to, n)
-}
-
+// Property frames with their IK states.
 pub fn write_property_section(
     out: &mut [u8],
     to: usize,
@@ -143,6 +131,6 @@ pub fn write_property_section(
     ensures { λ r. ⌜ Wrote (now (out .entry)) to (write-counted property (frames-of (now (first .entry)) (part-is a) (now (second .entry)) (part-is b))) (now (out .exit)) r ⌝ }
 {
     let p = write_count(out, to, a.count + b.count);
-    let q = write_frames(out, p, first, a);
-    write_frames(out, q, second, b)
+    let q = vmd_writers::write_properties(out, p, first, a.place, a.count as usize);
+    vmd_writers::write_properties(out, q, second, b.place, b.count as usize)
 }

@@ -1,5 +1,5 @@
 -- Laws of the whole file: its sections, its two halves, and what building saves. Assumes nothing.
-use Prim.Native.Nat.{ℕ, _+_, _/_, _<_}
+use Prim.Native.Nat.{ℕ, _+_, _*_, _/_, _≤_, _<_}
 use mathlib.Core.Path.{_≡_, sym, _∙_}
 use mathlib.Core.Bool.{true}
 use mathlib.Core.List.{List, _++_, append-assoc, map}
@@ -15,13 +15,13 @@ use Rattle.vmd_format.specs.Take.{property, write-header, write-sections, write
 use Rattle.vmd_format.specs.Opening.{Part}
 use Rattle.vmd_format.specs.Places.{Reaches}
 use Rattle.vmd_format.specs.PlacesLaws.{table-length}
-use Rattle.vmd_format.specs.ScanLaws.{PartWithin}
 use Rattle.vmd_format.specs.Parts.{NameTable, Parts, records-of, is-got, frames, properties-of, upto, bone-at, morph-at, take-of-parts, passes, fails, parts-check, build, bone-check, morph-check}
 use Rattle.vmd_format.specs.PartsLaws.{build-given, build-refused}
 use Rattle.vmd_records.specs.declared.VmdKind.{VmdKind}
 use Rattle.vmd_records.specs.declared.VmdKind.the-variants as kind
 use Rattle.vmd_records.specs.Kinds.{layout, size-of}
-use Rattle.vmd_writers.proofs.Sections.{kind-sized, camera-sized, light-sized, self-shadow-sized}
+use Rattle.vmd_format.specs.SizedLaws.{camera-sized, light-sized, self-shadow-sized}
+use Rattle.vmd_records.specs.KindLaws.{kind-sized}
 use Rattle.vmd_bytes.specs.Written.{Room, Wrote, Rest}
 use Rattle.vmd_bytes.proofs.Writes.{rest-as}
 use Rattle.vmd_output.specs.Sections.{rows, frame-rows}
@@ -62,8 +62,8 @@ module _ (k : VmdKind) (s : List ℕ) {z : ℕ} (e : z ≡ size-of k) where
   abbrev filling : Part
   filling = record { count = length s / z; place = 0 }
 
-  pub filling-lies : PartWithin (size-of k) s filling
-  filling-lies = record { place = omega arith; ends = rw (← e) (omega (arith, div-add-mod' (length s) z)) }
+  pub filling-lies : 0 + length s / z * size-of k ≤ length s
+  filling-lies = rw (← e) (omega (arith, div-add-mod' (length s) z))
 
   filling-is : write-counted (fixed (layout k)) (records-of (layout k) s) ≡ u32-bytes (length s / z) ++ rows (layout k) s filling
   unfolding write-counted fixed records-of

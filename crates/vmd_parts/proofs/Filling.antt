@@ -1,26 +1,26 @@
 -- Laws of bones and morphs from their columns: what stands at an index, its bytes, and a loop that writes them. Assumes nothing.
 use Prim.Native.Nat.{ℕ, zero, suc, _+_, _-_, _*_, _≤_, _<_}
-use mathlib.Core.Path.{_≡_, ap, sym, subst, _∙_}
+use mathlib.Core.Path.{_≡_, ap, sym, _∙_}
 use mathlib.Core.Bool.{true, and-eq-true-iff}
 use mathlib.Core.List.{List, [], _∷_, _++_, map}
 use native.Mathlib.Nat.{sub-zero}
 use native.Mathlib.Numerals.{add-one}
 use native.Mathlib.Omega.{arith}
 use borrow.Author.Tests.{ltb-true}
-use lib.ListN.{length, getD, take, drop, length-drop}
-use lib.Seq.{take-all, length-take-le}
+use lib.ListN.{length, getD, take, drop, length-drop, length-map}
 use lib.Ieee.{Float, nan, binary32, toBits}
 use Rattle.vmd_format.specs.Bytes.{u32-bytes, padded}
 use Rattle.vmd_format.specs.Layout.{number, name, raw, _⊗_, as-record}
 use Rattle.vmd_format.specs.Refusal.{name-index-too-large, not-finite}
 use Rattle.vmd_format.specs.Records.{bone, morph}
 use Rattle.vmd_format.specs.Read.{write-all}
+use Rattle.vmd_format.specs.Rewriting.{padded-front}
 use Rattle.vmd_format.specs.Parts.{NameTable, Check, passes, _next_, each, finite, all-finite, names-of, upto}
 use Rattle.vmd_format.specs.PartsLaws.{all-at, upto-length, next-passes, need-passes, each-passes}
 use Rattle.vmd_bytes.specs.Slices.{splice, part}
-use Rattle.vmd_bytes.proofs.Laws.{splice-nil, part-cons, padded-long}
-use Rattle.vmd_bytes.specs.Written.{Room, Wrote, Rest}
-use Rattle.vmd_bytes.proofs.Writes.{rest-as, rest-room, rest-then, rest-done}
+use Rattle.vmd_bytes.proofs.Laws.{part-cons}
+use Rattle.vmd_bytes.specs.Written.{Room, Wrote}
+use Rattle.vmd_bytes.proofs.Writes.{less-one, Filling, filling-start, filling-turn, filling-end}
 use Rattle.vmd_checks.specs.Meaning.{table-of, bits}
 use Rattle.vmd_checks.specs.Stages.{bone-right, morph-right}
 use Rattle.vmd_parts.specs.Stages.{BoneThere, bone-bytes, BonesFit, bone-of, MorphsFit, morph-of}
@@ -96,16 +96,11 @@ four l k h =
     part-cons l k 3 (omega arith)
     ∙ rw (part-cons l (k + 1) 2 (omega arith), part-cons l (k + 1 + 1) 1 (omega arith), part-cons l (k + 1 + 1 + 1) 0 (omega arith), f, e)
 
-whole-field : (n : ℕ) (l : List ℕ) → n ≤ length l → padded n (take n l) ≡ take n l
-whole-field n l h =
-    let k : length (take n l) ≡ n = length-take-le n l h in
-    padded-long n (take n l) (omega arith) ∙ take-all n (take n l) (omega arith)
-
 pub bone-is : {s : List ℕ} (t : NameTable) (x f u r a : List ℕ) (i : ℕ) → BoneThere u r a i → s ≡ getD (names-of t) (getD x i 0) []
     → bone-bytes s (getD f i 0) u r a i ≡ bone .encode (bone-of t x f u r a i)
 unfolding bone-bytes bone-of bone as-record _⊗_ name number raw write-all u32-bytes
 bone-is t x f u r a i b e =
-    rw (e, three u (3 * i) (b .translation), four r (4 * i) (b .rotation), whole-field 64 (drop (64 * i) a) (rw length-drop (omega (arith, b .interpolation))))
+    rw (e, three u (3 * i) (b .translation), four r (4 * i) (b .rotation), padded-front 64 (drop (64 * i) a) (rw length-drop (omega (arith, b .interpolation))))
 
 pub morph-is : {s : List ℕ} (t : NameTable) (x f : List ℕ) (w : List Float) (i : ℕ) → i < length w → s ≡ getD (names-of t) (getD x i 0) []
     → padded 15 s ++ (u32-bytes (getD f i 0) ++ u32-bytes (toBits binary32 (getD w i nan))) ≡ morph .encode (morph-of t x f (bits w) i)
@@ -114,36 +109,36 @@ morph-is t x f w i h e = rw (e, bits-at w i h)
 
 -- ---- a loop that writes a record for each index
 
-pub record Filling {A : Type 0} (e : A → List ℕ) (w : ℕ) (f : ℕ → A) (n : ℕ) (out₀ : List ℕ) (to : ℕ) (out : List ℕ) (i q : ℕ) : Type 0 where
+module _ {A : Type 0} (f : ℕ → A) {n i : ℕ} where
+  index-first : i < n → map f (upto i (n - i)) ≡ f i ∷ map f (upto (i + 1) (n - (i + 1)))
+  unfolding upto
+  index-first h =
+      let d : n - i ≡ suc (n - (i + 1)) = omega arith in
+      ap (λ x. map f (upto i x)) d ∙ ap {B = List A} (λ x. f i ∷ map f (upto x (n - (i + 1)))) (sym (add-one i))
+
+  index-none : n ≤ i → map f (upto i (n - i)) ≡ []
+  unfolding upto
+  index-none h = let z : n - i ≡ 0 = omega arith in rw z
+
+-- what holds before each turn: the records from this index on are left
+pub record Columned {A : Type 0} (e : A → List ℕ) (w : ℕ) (f : ℕ → A) (n : ℕ) (out₀ : List ℕ) (to : ℕ) (out : List ℕ) (i q : ℕ) : Type 0 where
   pub inside : i ≤ n
-  pub wide : (a : A) → length (e a) ≡ w
-  pub rest : Rest out₀ to (write-all e (map f (upto 0 n))) out q (write-all e (map f (upto i (n - i))))
+  pub fill : Filling e w out₀ to (write-all e (map f (upto 0 n))) out q (n - i) (map f (upto i (n - i)))
 
 module _ {A : Type 0} {e : A → List ℕ} {w : ℕ} {f : ℕ → A} {n : ℕ} {out₀ : List ℕ} {to : ℕ} where
-  pub filling-start : ((a : A) → length (e a) ≡ w) → Room out₀ to (write-all e (map f (upto 0 n))) → Filling e w f n out₀ to out₀ 0 to
-  filling-start k h = record { inside = omega arith; wide = k; rest = rest-as (ap (λ x. write-all e (map f (upto 0 x))) (sym (sub-zero n))) h }
+  pub columned-start : ((a : A) → length (e a) ≡ w) → Room out₀ to (write-all e (map f (upto 0 n))) → Columned e w f n out₀ to out₀ 0 to
+  columned-start k h =
+      let z : map f (upto 0 (n - 0)) ≡ map f (upto 0 n) = ap (λ x. map f (upto 0 x)) (sub-zero n) in
+      record { inside = omega arith; fill = rw z (filling-start (map f (upto 0 n)) k (length-map (upto 0 n) f ∙ upto-length 0 n ∙ sym (sub-zero n)) h) }
 
-  module _ {out : List ℕ} {i q : ℕ} (g : Filling e w f n out₀ to out i q) where
-    one : i < n → Rest out₀ to (write-all e (map f (upto 0 n))) out q (e (f i) ++ write-all e (map f (upto (i + 1) (n - (i + 1)))))
-    unfolding upto write-all
-    one h =
-        let d : n - i ≡ suc (n - (i + 1)) = omega arith in
-        subst (λ v. Rest out₀ to (write-all e (map f (upto 0 n))) out q v)
-        (ap (λ x. write-all e (map f (upto i x))) d ∙ ap (λ x. e (f i) ++ write-all e (map f (upto x (n - (i + 1))))) (sym (add-one i))) (g .rest)
+  module _ {out : List ℕ} {i q : ℕ} (g : Columned e w f n out₀ to out i q) where
+    pub columned-room : i < n → q + w ≤ length out
+    columned-room h = omega (arith, g .fill .room, less-one (n - i) w (omega arith))
 
-    pub filling-room : i < n → q + w ≤ length out
-    filling-room h = omega (arith, rest-room {u = e (f i)} (write-all e (map f (upto (i + 1) (n - (i + 1))))) (one h) .room, g .wide (f i))
+    pub columned-turn : {o v : List ℕ} → i < n → o ≡ splice out q v → v ≡ e (f i) → Columned e w f n out₀ to o (i + 1) (q + w)
+    columned-turn h d z =
+        let m : n - i - 1 ≡ n - (i + 1) = omega arith in
+        record { inside = omega arith; fill = rw m at (filling-turn (g .fill) (omega arith) (index-first f h) d z) }
 
-    pub filling-turn : {o v : List ℕ} → i < n → o ≡ splice out q v → v ≡ e (f i) → Filling e w f n out₀ to o (i + 1) (q + w)
-    filling-turn h d z = record {
-      inside = omega arith;
-      wide = g .wide;
-      rest = rest-then (write-all e (map f (upto (i + 1) (n - (i + 1))))) (one h) (record { holds = d ∙ ap (splice out q) z; ends = ap (λ x. q + x) (sym (g .wide (f i))) });
-    }
-
-    pub filling-end : n ≤ i → Wrote out₀ to (write-all e (map f (upto 0 n))) out q
-    unfolding upto write-all
-    filling-end h =
-        let z : n - i ≡ 0 = omega arith in
-        let r : Rest out₀ to (write-all e (map f (upto 0 n))) out q [] = subst (λ x. Rest out₀ to (write-all e (map f (upto 0 n))) out q (write-all e (map f (upto i x)))) z (g .rest) in
-        rest-done r (record { holds = sym (splice-nil out q); ends = omega arith })
+    pub columned-end : n ≤ i → Wrote out₀ to (write-all e (map f (upto 0 n))) out q
+    columned-end h = filling-end (g .fill) (index-none f h)

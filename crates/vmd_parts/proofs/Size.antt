@@ -1,37 +1,27 @@
 -- Laws of what the checks let through, and of the size of what is built. Assumes nothing.
-use Prim.Native.Nat.{ℕ, zero, suc, _+_, _-_, _*_, _/_, _%_, _≤_, _<_}
+use Prim.Native.Nat.{ℕ, _+_, _-_, _*_, _/_, _%_, _≤_, _<_}
 use mathlib.Core.Path.{_≡_, ap, sym, _∙_}
 use mathlib.Core.Bool.{true}
 use mathlib.Core.List.{List, map}
 use native.Mathlib.Nat.{div-add-mod', mul-comm, add-zero}
 use native.Mathlib.Omega.{arith}
-use lib.ListN.{length, drop, length-map}
+use lib.ListN.{length, length-map}
 use Rattle.vmd_format.specs.Refusal.{Refusal, parts-not-whole}
 use Rattle.vmd_format.specs.Answer.{Answer, declined, map-answer, fitted, within}
-use Rattle.vmd_format.specs.Records.{ik-state}
 use Rattle.vmd_format.specs.Take.{write-take}
 use Rattle.vmd_format.specs.Lengths.{export-length}
 use Rattle.vmd_format.specs.Opening.{ik-total}
-use Rattle.vmd_format.specs.Places.{next-frame}
-use Rattle.vmd_format.specs.PlacesLaws.{table-length, property-in, frames-in}
-use Rattle.vmd_format.specs.Bytes.{u32}
 use Rattle.vmd_format.specs.Parts.{Parts, names-of, frames, properties-of, upto, bone-at, morph-at, take-of-parts, passes, fails, _next_, each, is-got, name-check, bone-check, morph-check, parts-check, build}
 use Rattle.vmd_format.specs.PartsLaws.{upto-length, next-passes, need-passes, Counts, counts-pass, Columns, columns-pass, build-given, build-refused}
-use Rattle.vmd_writers.proofs.Sections.{camera-sized, light-sized, self-shadow-sized}
+use Rattle.vmd_format.specs.SizedLaws.{camera-sized, light-sized, self-shadow-sized}
 use Rattle.vmd_output.proofs.Saves.{refused-answer, given-answer}
-use Rattle.vmd_checks.proofs.Properties.{frame-end, properties-framed}
+use Rattle.vmd_format.specs.WalkLaws.{frames-total}
+use Rattle.vmd_checks.proofs.Properties.{properties-framed}
 use Rattle.vmd_checks.proofs.Whole.{Whole, whole-are, records-length, whole-same}
 
 -- ---- the size
 
--- the bytes of n frames
-frames-total : (s : List ℕ) (n at : ℕ) → frame-end s n at ≡ at + 9 * n + 21 * ik-total (frames-in s n at)
-unfolding frame-end frames-in ik-total property-in next-frame
-frames-total s zero at = omega arith
-frames-total s (suc n) at =
-    omega (arith, frames-total s n (next-frame s at), table-length ik-state (u32 (drop (at + 5) s)) (drop (at + 9) s))
-
-pub properties-total : (s : List ℕ) → is-got (frames s) ≡ true → 9 * length (properties-of s) + 21 * ik-total (properties-of s) ≡ length s
+properties-total : (s : List ℕ) → is-got (frames s) ≡ true → 9 * length (properties-of s) + 21 * ik-total (properties-of s) ≡ length s
 properties-total s e =
     let f = properties-framed s e in
     omega (arith, f .ends, frames-total s (length (properties-of s)) 0, ap ik-total (f .are))

@@ -1,18 +1,19 @@
 -- Laws of writing what the parts mean: floats, and records from columns. Assumes nothing.
 use Prim.Native.Nat.{ℕ, zero, suc, _+_, _-_, _*_, _≤_, _<_}
-use mathlib.Core.Path.{_≡_, refl, ap, sym, _∙_}
+use mathlib.Core.Path.{_≡_, ap, sym, _∙_}
 use mathlib.Core.Bool.{true, _&&_, and-eq-true-iff}
 use mathlib.Core.List.{List, [], _∷_, _++_, append-assoc}
 use native.Mathlib.Omega.{arith}
 use lib.ListN.{length, getD, take, drop, length-append, length-drop, length-map}
+use lib.Seq.{length-take-le}
 use lib.Ieee.{Float, nan, binary32, toBits}
 use Rattle.vmd_format.specs.Bytes.{u32-bytes, padded}
 use Rattle.vmd_format.specs.BytesLaws.{padded-length}
 use Rattle.vmd_format.specs.Read.{write-all}
 use Rattle.vmd_format.specs.Parts.{finite, all-finite}
 use Rattle.vmd_bytes.specs.Slices.{splice, part}
-use Rattle.vmd_bytes.proofs.Laws.{splice-nil, splice-append-at, length-u32-bytes, length-part, part-add}
-use Rattle.vmd_writers.proofs.Sections.{rest-written}
+use Rattle.vmd_bytes.proofs.Laws.{splice-append-at, length-u32-bytes, length-part, part-add}
+use Rattle.vmd_bytes.proofs.Writes.{Filling, filling-start, filling-turn, filling-end}
 use Rattle.vmd_checks.specs.Meaning.{bits}
 use Rattle.vmd_parts.specs.Stages.{BoneThere, bone-bytes}
 use Rattle.vmd_checks.proofs.Columns.{bits-cons}
@@ -26,47 +27,49 @@ floats-length zero l h = omega arith
 floats-length (suc n) [] h = absurd (omega arith)
 floats-length (suc n) (a ∷ l) h = length-append (u32-bytes a) (write-all u32-bytes (take n l)) ∙ omega (arith, length-u32-bytes a, floats-length n l (omega arith))
 
--- What holds before each turn of a loop that writes n floats: those that are left are finite and have room, and to write
--- them makes up the whole.
-pub record Pouring (xs : List Float) (at n : ℕ) (out₀ : List ℕ) (to : ℕ) (out : List ℕ) (p q left : ℕ) : Type 0 where
+pub bits-length : (xs : List Float) → length (bits xs) ≡ length xs
+bits-length xs = length-map xs (toBits binary32)
+
+-- What holds before each turn of a loop that writes floats: those that are left are finite, and are to be written here.
+pub record Pouring (xs : List Float) (l : List ℕ) (to : ℕ) (w x : List ℕ) (p q left : ℕ) : Type 0 where
   pub lie : p + left ≤ length xs
-  pub room : q + left * 4 ≤ length out
-  pub kept : length out ≡ length out₀
   pub fine : all-finite (take left (drop p (bits xs))) ≡ true
-  pub whole : splice out q (write-all u32-bytes (take left (drop p (bits xs)))) ≡ splice out₀ to (write-all u32-bytes (take n (drop at (bits xs))))
+  pub fill : Filling u32-bytes 4 l to w x q left (take left (drop p (bits xs)))
 
-module _ {xs : List Float} {at n : ℕ} {out₀ : List ℕ} {to : ℕ} where
-  pub pouring-start : at + n ≤ length xs → to + n * 4 ≤ length out₀ → all-finite (take n (drop at (bits xs))) ≡ true → Pouring xs at n out₀ to out₀ at to n
-  pouring-start h r f = record { lie = h; room = r; kept = refl; fine = f; whole = refl }
+module _ {xs : List Float} {l : List ℕ} {to : ℕ} where
+  pub pouring-start : {at n : ℕ} → at + n ≤ length xs → to + n * 4 ≤ length l → all-finite (take n (drop at (bits xs))) ≡ true
+      → Pouring xs l to (write-all u32-bytes (take n (drop at (bits xs)))) l at to n
+  pouring-start {at} {n} h r f =
+      let k : n ≤ length (drop at (bits xs)) = rw length-drop (omega (arith, bits-length xs)) in
+      record {
+        lie = h;
+        fine = f;
+        fill = filling-start (take n (drop at (bits xs))) length-u32-bytes (length-take-le n (drop at (bits xs)) k) (record { room = omega (arith, floats-length n (drop at (bits xs)) k) });
+      }
 
-  module _ {out : List ℕ} {p q left : ℕ} (g : Pouring xs at n out₀ to out p q left) (h : 0 < left) where
-    one : take left (drop p (bits xs)) ≡ toBits binary32 (getD xs p nan) ∷ take (left - 1) (drop (p + 1) (bits xs))
-    one =
-        let d : left ≡ suc (left - 1) = omega arith in
-        ap (λ i. take i (drop p (bits xs))) d ∙ rw (bits-cons xs p (omega (arith, g .lie)))
+  module _ {w x : List ℕ} {p q left : ℕ} (g : Pouring xs l to w x p q left) where
+    module _ (h : 0 < left) where
+      one : take left (drop p (bits xs)) ≡ toBits binary32 (getD xs p nan) ∷ take (left - 1) (drop (p + 1) (bits xs))
+      one =
+          let d : left ≡ suc (left - 1) = omega arith in
+          ap (λ i. take i (drop p (bits xs))) d ∙ rw (bits-cons xs p (omega (arith, g .lie)))
 
-    fine-now : (finite (toBits binary32 (getD xs p nan)) && all-finite (take (left - 1) (drop (p + 1) (bits xs)))) ≡ true
-    unfolding all-finite
-    fine-now = rw one at (g .fine)
+      fine-now : (finite (toBits binary32 (getD xs p nan)) && all-finite (take (left - 1) (drop (p + 1) (bits xs)))) ≡ true
+      unfolding all-finite
+      fine-now = rw one at (g .fine)
 
-    pub pouring-fine : finite (toBits binary32 (getD xs p nan)) ≡ true
-    pouring-fine = and-eq-true-iff _ (all-finite (take (left - 1) (drop (p + 1) (bits xs)))) .0 fine-now .0
+      pub pouring-fine : finite (toBits binary32 (getD xs p nan)) ≡ true
+      pouring-fine = and-eq-true-iff _ (all-finite (take (left - 1) (drop (p + 1) (bits xs)))) .0 fine-now .0
 
-    pub pouring-turn : {next : List ℕ} {v : ℕ} → v ≡ toBits binary32 (getD xs p nan) → length next ≡ length out → next ≡ splice out q (u32-bytes v)
-        → Pouring xs at n out₀ to next (p + 1) (q + 4) (left - 1)
-    pouring-turn {next} {v} e k w = record {
-      lie = omega (arith, g .lie);
-      room = omega (arith, g .room);
-      kept = k ∙ g .kept;
-      fine = and-eq-true-iff (finite (toBits binary32 (getD xs p nan))) _ .0 fine-now .1;
-      whole =
-          rw (w, e) (rest-written u32-bytes (toBits binary32 (getD xs p nan)) (take (left - 1) (drop (p + 1) (bits xs))) out q 4 (length-u32-bytes _) (omega (arith, g .room)))
-          ∙ ap (λ l. splice out q (write-all u32-bytes l)) (sym one) ∙ g .whole;
-    }
+      pub pouring-turn : {y : List ℕ} {v : ℕ} → v ≡ toBits binary32 (getD xs p nan) → y ≡ splice x q (u32-bytes v) → Pouring xs l to w y (p + 1) (q + 4) (left - 1)
+      pouring-turn e d = record {
+        lie = omega (arith, g .lie);
+        fine = and-eq-true-iff (finite (toBits binary32 (getD xs p nan))) _ .0 fine-now .1;
+        fill = filling-turn (g .fill) h one d (ap u32-bytes e);
+      }
 
-  pub pouring-end : {out : List ℕ} {p q left : ℕ} → Pouring xs at n out₀ to out p q left → left ≡ 0 → out ≡ splice out₀ to (write-all u32-bytes (take n (drop at (bits xs))))
-  unfolding write-all
-  pouring-end {out} {p} {q} g e = sym (splice-nil out q) ∙ rw e at (g .whole)
+    pub pouring-end : left ≡ 0 → x ≡ splice l to w
+    pouring-end e = filling-end (g .fill) (rw e) .holds
 
 -- ---- copies one after another
 
@@ -108,6 +111,3 @@ bone-written {y = y} s v t r a i l to b h e f g j k n =
     let q : to + 47 ≡ to + 19 + 28 = omega arith in
     named-at s v (u ++ (m ++ take 64 (drop (64 * i) a))) l to (omega arith) e f
     (k ∙ rw (j, g, p, q, splice-append-at y (to + 19) u m 12 lu (omega arith), splice-append-at y (to + 19) (u ++ m) (take 64 (drop (64 * i) a)) 28 lum (omega arith), append-assoc))
-
-pub bits-length : (xs : List Float) → length (bits xs) ≡ length xs
-bits-length xs = length-map xs (toBits binary32)

@@ -1,7 +1,5 @@
 // Building a file from parts: a model name, name tables, record bytes and columns. Every part is checked before a byte is
 // written.
-use vmd_base::VmdRefusal;
-use vmd_base::VmdSection;
 use vmd_names::Check;
 use vmd_output::VmdWritten;
 use vmd_records::VmdKind;
@@ -32,33 +30,36 @@ const BONE_SIZE: usize = VmdParsedBoneFrame::SIZE;
 
 const MORPH_SIZE: usize = VmdParsedMorphFrame::SIZE;
 
+const INTERPOLATION_SIZE: usize = VmdParsedBoneFrame::INTERPOLATION_SIZE;
+
+const FLOAT_SIZE: usize = 4;
+
 // The name of a bone or a morph with the byte after it, which is two words.
 const NAME_WORDS: usize = 16;
 
 // ---- the size
 
-// The size of a file of so many bones and morphs and of these records, where it is within a limit. Only the bytes of the
+// The size of a file of so many bones and morphs and of these record bytes, where it is within a limit. Only the bytes of the
 // properties can be so many that the sum would not fit.
-fn size_within(
+fn parts_size(
+    limit: usize,
     bones: usize,
     morphs: usize,
     cameras: usize,
     lights: usize,
     self_shadows: usize,
     properties: usize,
-    limit: usize,
 ) -> VmdWritten
     requires { ⌜ (bones ≤ 4294967295) × (morphs ≤ 4294967295) × (cameras ≤ 261993004995) × (lights ≤ 120259084260) × («self_shadows» ≤ 38654705655) ⌝ }
     ensures { λ r. ⌜ written-answer r ≡ within limit (74 + 111 * bones + 23 * morphs + cameras + lights + «self_shadows» + properties) ⌝ }
 {
-    let front = 74 + 111 * bones + 23 * morphs + cameras + lights + self_shadows;
-    if limit < front {
-        return VmdWritten::Refused(VmdRefusal::OutputTooShort);
-    }
-    if limit - front < properties {
-        return VmdWritten::Refused(VmdRefusal::OutputTooShort);
-    }
-    VmdWritten::Bytes((front + properties) as u64)
+    let front = vmd_output::LEAST_SIZE
+        + BONE_SIZE * bones
+        + MORPH_SIZE * morphs
+        + cameras
+        + lights
+        + self_shadows;
+    vmd_output::size_within(limit, front, properties)
 }
 
 // How many bytes building writes.
@@ -107,14 +108,14 @@ pub fn build_vmd_size(
         morph_weights,
     ) {
         Check::Fails(k) => VmdWritten::Refused(k),
-        Check::Passes => size_within(
+        Check::Passes => parts_size(
+            vmd_output::LARGEST,
             bone_name_indices.len(),
             morph_name_indices.len(),
             camera_frames.len(),
             light_frames.len(),
             self_shadow_frames.len(),
             property_frames.len(),
-            vmd_output::LARGEST,
         ),
     }
 }
@@ -191,7 +192,7 @@ fn write_floats(xs: &[f32], at: usize, n: usize, out: &mut [u8], to: usize)
         let bits = vmd_bytes::float_to_bits(xs[p]);
         vmd_bytes::write_u32_le(out, q, bits);
         p += 1;
-        q += 4;
+        q += FLOAT_SIZE;
         left -= 1;
     }
 }
@@ -234,10 +235,28 @@ fn write_bone_frame(
     ensures { λ _. ⌜ now (out .exit) ≡ splice (now (out .entry)) to (bone-bytes (part (now (names .entry)) start n) frame (bits (now (translations .entry))) (bits (now (rotations .entry))) (now (interpolations .entry)) i) ⌝ }
 {
     write_table_name(names, start, n, out, to);
-    vmd_bytes::write_u32_le(out, to + 15, frame);
-    write_floats(translations, 3 * i, 3, out, to + 19);
-    write_floats(rotations, 4 * i, 4, out, to + 31);
-    copy_interpolation(interpolations, 64 * i, out, to + 47);
+    vmd_bytes::write_u32_le(out, to + VmdParsedBoneFrame::FRAME_OFFSET, frame);
+    write_floats(
+        translations,
+        3 * i,
+        3,
+        out,
+        to + VmdParsedBoneFrame::TRANSLATION_OFFSET,
+    );
+    write_floats(
+        rotations,
+        4 * i,
+        4,
+        out,
+        to + VmdParsedBoneFrame::ROTATION_OFFSET,
+    );
+    let at = INTERPOLATION_SIZE * i;
+    copy_interpolation(
+        interpolations,
+        at,
+        out,
+        to + VmdParsedBoneFrame::INTERPOLATION_OFFSET,
+    );
 }
 
 // The fields of a morph.
@@ -254,8 +273,9 @@ fn write_morph_frame(
     ensures { λ _. ⌜ now (out .exit) ≡ splice (now (out .entry)) to (padded 15 (part (now (names .entry)) start n) ++ (u32-bytes frame ++ u32-bytes (toBits binary32 weight))) ⌝ }
 {
     write_table_name(names, start, n, out, to);
-    vmd_bytes::write_u32_le(out, to + 15, frame);
-    vmd_bytes::write_u32_le(out, to + 19, vmd_bytes::float_to_bits(weight));
+    vmd_bytes::write_u32_le(out, to + VmdParsedMorphFrame::FRAME_OFFSET, frame);
+    let bits = vmd_bytes::float_to_bits(weight);
+    vmd_bytes::write_u32_le(out, to + VmdParsedMorphFrame::WEIGHT_OFFSET, bits);
 }
 
 // A section of the records of a kind that fill some bytes. The result is the place after it.
@@ -263,10 +283,9 @@ fn write_records_section(out: &mut [u8], to: usize, kind: VmdKind, src: &[u8]) -
     requires { ⌜ (length (now src) / size-of kind ≤ 4294967295) × Room (now out) to (write-counted (fixed (layout kind)) (records-of (layout kind) (now src))) ⌝ }
     ensures { λ r. ⌜ Wrote (now (out .entry)) to (write-counted (fixed (layout kind)) (records-of (layout kind) (now (src .entry)))) (now (out .exit)) r ⌝ }
 {
-    let size = kind.size();
-    let n = (src.len() / size) as u32;
-    let p = vmd_output::write_count(out, to, n);
-    vmd_output::write_rows(out, p, kind, src, VmdSection { count: n, place: 0 })
+    let n = src.len() / kind.size();
+    let p = vmd_output::write_count(out, to, n as u32);
+    vmd_writers::write_records(out, p, kind, src, 0, n)
 }
 
 // The same of property frames.
@@ -274,9 +293,9 @@ fn write_property_section(out: &mut [u8], to: usize, src: &[u8]) -> usize
     requires { ⌜ (length (properties-of (now src)) ≤ 4294967295) × (is-got (frames (now src)) ≡ true) × Room (now out) to (write-counted property (properties-of (now src))) ⌝ }
     ensures { λ r. ⌜ Wrote (now (out .entry)) to (write-counted property (properties-of (now (src .entry)))) (now (out .exit)) r ⌝ }
 {
-    let n = vmd_checks::property_count(src) as u32;
-    let p = vmd_output::write_count(out, to, n);
-    vmd_output::write_frames(out, p, src, VmdSection { count: n, place: 0 })
+    let n = vmd_checks::property_count(src);
+    let p = vmd_output::write_count(out, to, n as u32);
+    vmd_writers::write_properties(out, p, src, 0, n)
 }
 
 // The bones from their columns.
@@ -478,14 +497,14 @@ pub fn build_vmd_animation_from_parts(
         morph_weights,
     ) {
         Check::Fails(k) => VmdWritten::Refused(k),
-        Check::Passes => match size_within(
+        Check::Passes => match parts_size(
+            out.len(),
             bone_name_indices.len(),
             morph_name_indices.len(),
             camera_frames.len(),
             light_frames.len(),
             self_shadow_frames.len(),
             property_frames.len(),
-            out.len(),
         ) {
             VmdWritten::Refused(k) => VmdWritten::Refused(k),
             VmdWritten::Bytes(_) => {

@@ -1,3 +1,4 @@
 pub mod Fields
 pub mod Kinds
+pub mod KindLaws
 pub mod Examples

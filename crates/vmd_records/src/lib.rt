@@ -67,17 +67,23 @@ impl VmdParsedBoneFrame {
 
     pub const FRAME_OFFSET: usize = 15;
 
+    pub const TRANSLATION_OFFSET: usize = 19;
+
+    pub const ROTATION_OFFSET: usize = 31;
+
     pub const INTERPOLATION_OFFSET: usize = 47;
+
+    pub const INTERPOLATION_SIZE: usize = 64;
 
     pub fn from_bytes(bytes: &[u8]) -> VmdParsedBoneFrame
         ensures { λ r. ⌜ r ≡ bone-fields (bone .decode (now (bytes .entry))) ⌝ }
     {
         VmdParsedBoneFrame {
             frame: number_at(bytes, VmdParsedBoneFrame::FRAME_OFFSET),
-            translation_x: number_at(bytes, 19),
+            translation_x: number_at(bytes, VmdParsedBoneFrame::TRANSLATION_OFFSET),
             translation_y: number_at(bytes, 23),
             translation_z: number_at(bytes, 27),
-            rotation_x: number_at(bytes, 31),
+            rotation_x: number_at(bytes, VmdParsedBoneFrame::ROTATION_OFFSET),
             rotation_y: number_at(bytes, 35),
             rotation_z: number_at(bytes, 39),
             rotation_w: number_at(bytes, 43),
@@ -97,12 +103,14 @@ impl VmdParsedMorphFrame {
 
     pub const FRAME_OFFSET: usize = 15;
 
+    pub const WEIGHT_OFFSET: usize = 19;
+
     pub fn from_bytes(bytes: &[u8]) -> VmdParsedMorphFrame
         ensures { λ r. ⌜ r ≡ morph-fields (morph .decode (now (bytes .entry))) ⌝ }
     {
         VmdParsedMorphFrame {
             frame: number_at(bytes, VmdParsedMorphFrame::FRAME_OFFSET),
-            weight: number_at(bytes, 19),
+            weight: number_at(bytes, VmdParsedMorphFrame::WEIGHT_OFFSET),
         }
     }
 }

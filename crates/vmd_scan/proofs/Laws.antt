@@ -1,5 +1,5 @@
 -- Laws of scanning: its steps make the format's scan, turns of the loops over frames, and what callers know of a scan. Assumes nothing.
-use Prim.Native.Nat.{ℕ, zero, suc, _+_, _*_, _-_, _≤_, _<_, max}
+use Prim.Native.Nat.{ℕ, suc, _+_, _*_, _-_, _≤_, _<_, max}
 use mathlib.Core.Path.{_≡_, refl, sym, _∙_}
 use mathlib.Core.Bool.{Bool, true, false}
 use mathlib.Core.List.{List, [], _∷_, _++_, append-assoc}
@@ -17,9 +17,10 @@ use Rattle.vmd_format.specs.Read.{Step, refused, got, Oversized, refuse, Manner
 use Rattle.vmd_format.specs.Take.{File, header, read-file, sections}
 use Rattle.vmd_format.specs.Fetch.{model-of}
 use Rattle.vmd_format.specs.Opening.{Scan}
-use Rattle.vmd_format.specs.Places.{place-after, header-place, Span, part-in, no-span, records-span, count-span, span, optional-if, optional-span, Walk, walk-on, walk, scan-sections, scan-file, largest-of, next-frame, largest-frame-of, frame-places, Reaches}
-use Rattle.vmd_format.specs.PlacesLaws.{Holds, Within, optional-within, Frame, frame-span, walk-next}
+use Rattle.vmd_format.specs.Places.{place-after, header-place, Span, part-in, no-span, records-span, count-span, span, optional-if, optional-span, walk, scan-sections, scan-file, largest-of, next-frame, largest-frame-of, frame-places, Reaches}
+use Rattle.vmd_format.specs.PlacesLaws.{Holds, Within, optional-within, walk-next}
 use Rattle.vmd_format.specs.ScanLaws.{Inside, Matches, file-agrees}
+use Rattle.vmd_format.specs.WalkLaws.{Passed, walk-passed}
 use Rattle.vmd_scan.specs.Stages.{Numbered, number-if, read-number, Optional, nothing, there, optional-number-if, optional-number, counted-if, counted-span, Back, scan-front, scan-back, scan-end}
 
 -- records of at most 111 bytes, as many as a count says, fit a size
@@ -131,40 +132,6 @@ max-assoc : (a b c : ℕ) → max (max a b) c ≡ max a (max b c)
 max-assoc a b c = omega arith
 
 -- ---- property frames
-
-frame-ends : (s : List ℕ) (at : ℕ) → next-frame s at ≡ at + 9 + u32 (drop (at + 5) s) * 21
-unfolding next-frame
-frame-ends s at = refl
-
--- what is known of frames that a walk went over: they lie in the file, and they take nine bytes each and 21 for each IK state
-pub record Passed (s : List ℕ) (n at total : ℕ) (w : Walk) : Type 0 where
-  pub reaches : Reaches s n at
-  pub size : w .next + total * 21 ≡ at + n * 9 + w .ik-states * 21
-  pub ends : at ≤ length s → w .next ≤ length s
-
-pub walk-passed : (s : List ℕ) (n at total : ℕ) (w : Walk) → walk s n at total ≡ given w → Passed s n at total w
-unfolding walk walk-on Reaches
-walk-passed s zero at total w e =
-    let p : at ≡ w .next = cc in
-    let q : total ≡ w .ik-states = cc in
-    record { reaches = tt; size = omega arith; ends = λ h. omega arith }
-walk-passed s (suc n) at total w e =
-    go (leb (at + 5) (length s)) (span (refuse file-ends-early) 21 s (at + 5)) (frame-span s at) (walk-passed s n) e
-  where
-    Rest : Type 0
-    Rest = (at total : ℕ) (w : Walk) → walk s n at total ≡ given w → Passed s n at total w
-
-    go : (b : Bool) (x : Answer Span) → Holds (Frame s at) x → Rest → walk-on b x (walk s n) total ≡ given w → Passed s (suc n) at total w
-    go true (declined k) f r q = let z : _≡_ {A = ℕ} 0 1 = cc in absurd (omega arith)
-    go true (given x) f r q =
-        let p : Passed s n (next-frame s at) (total + x .count) w = r (next-frame s at) (total + x .count) w (rw (f .next) at q) in
-        let e : next-frame s at ≡ at + 9 + x .count * 21 = rw (f .count) (frame-ends s at) in
-        record {
-          reaches = (omega (arith, f .next, f .ends), p .reaches);
-          size = omega (arith, p .size);
-          ends = λ h. p .ends (omega (arith, f .next, f .ends));
-        }
-    go false x f r q = let z : _≡_ {A = ℕ} 0 1 = cc in absurd (omega arith)
 
 -- a turn of the walk over n frames
 pub walk-turn : (s : List ℕ) (n i at total k : ℕ) → i < n → at + 9 ≤ length s → k ≡ u32 (drop (at + 5) s) → k * 21 ≤ length s - (at + 9)

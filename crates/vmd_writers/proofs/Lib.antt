@@ -1,3 +1,2 @@
-pub mod Rewriting
-pub mod Sections
+pub mod Records
 pub mod Properties

@@ -1,5 +1,6 @@
-// The exporter's writers: each reads records of a file and writes their canonical bytes, names up to their first zero and
-// then zeros, flags as 0 or 1, everything else as it is. Internal: callers see to the lengths.
+// The writers of records: each reads records of a file and writes their canonical bytes, names up to their first zero and then
+// zeros, flags as 0 or 1, everything else as it is. Internal: callers see to the room. What writes records gives the place after
+// them, where the next one goes on.
 use vmd_records::VmdKind;
 use vmd_records::VmdParsedBoneFrame;
 use vmd_records::VmdParsedCameraFrame;
@@ -17,6 +18,7 @@ ghost use Rattle.vmd_format.specs.Places.{next-frame, Reaches};
 ghost use Rattle.vmd_format.specs.PlacesLaws.{property-in, frames-in};
 ghost use Rattle.vmd_format.specs.Take.{property};
 ghost use Rattle.vmd_bytes.specs.Slices.{splice, part};
+ghost use Rattle.vmd_bytes.specs.Written.{Room, Wrote};
 ghost use Rattle.vmd_records.specs.Kinds.{layout, size-of};
 
 // The size of each record; of a property frame, without its IK states.
@@ -56,7 +58,7 @@ const IK_COUNT: usize = VmdParsedPropertyFrame::IK_COUNT_OFFSET;
 // ---- bones
 
 // The name is written by words, one byte too wide, and then the rest from that byte on.
-pub fn write_bone(src: &[u8], at: usize, out: &mut [u8], to: usize)
+fn write_bone(src: &[u8], at: usize, out: &mut [u8], to: usize)
     requires { ⌜ (at + 111 ≤ length (now src)) × (to + 111 ≤ length (now out)) ⌝ }
     ensures { λ _. ⌜ now (out .exit) ≡ splice (now (out .entry)) to (bone .encode (bone .decode (drop at (now (src .entry))))) ⌝ }
 {
@@ -64,9 +66,9 @@ pub fn write_bone(src: &[u8], at: usize, out: &mut [u8], to: usize)
     vmd_bytes::copy_bytes(src, at + NAME_SIZE, out, to + NAME_SIZE, BONE_REST);
 }
 
-pub fn write_bones(src: &[u8], at: usize, out: &mut [u8], to: usize, n: usize)
-    requires { ⌜ (at + n * 111 ≤ length (now src)) × (to + n * 111 ≤ length (now out)) ⌝ }
-    ensures { λ _. ⌜ now (out .exit) ≡ splice (now (out .entry)) to (write-all (bone .encode) (table bone n (drop at (now (src .entry))))) ⌝ }
+fn write_bones(out: &mut [u8], to: usize, src: &[u8], at: usize, n: usize) -> usize
+    requires { ⌜ (at + n * 111 ≤ length (now src)) × Room (now out) to (write-all (bone .encode) (table bone n (drop at (now src)))) ⌝ }
+    ensures { λ r. ⌜ Wrote (now (out .entry)) to (write-all (bone .encode) (table bone n (drop at (now (src .entry))))) (now (out .exit)) r ⌝ }
 {
     let mut p = at;
     let mut q = to;
@@ -77,11 +79,12 @@ pub fn write_bones(src: &[u8], at: usize, out: &mut [u8], to: usize, n: usize)
         q += BONE_SIZE;
         left -= 1;
     }
+    q
 }
 
 // ---- morphs
 
-pub fn write_morph(src: &[u8], at: usize, out: &mut [u8], to: usize)
+fn write_morph(src: &[u8], at: usize, out: &mut [u8], to: usize)
     requires { ⌜ (at + 23 ≤ length (now src)) × (to + 23 ≤ length (now out)) ⌝ }
     ensures { λ _. ⌜ now (out .exit) ≡ splice (now (out .entry)) to (morph .encode (morph .decode (drop at (now (src .entry))))) ⌝ }
 {
@@ -89,9 +92,9 @@ pub fn write_morph(src: &[u8], at: usize, out: &mut [u8], to: usize)
     vmd_bytes::copy_word(src, at + NAME_SIZE, out, to + NAME_SIZE);
 }
 
-pub fn write_morphs(src: &[u8], at: usize, out: &mut [u8], to: usize, n: usize)
-    requires { ⌜ (at + n * 23 ≤ length (now src)) × (to + n * 23 ≤ length (now out)) ⌝ }
-    ensures { λ _. ⌜ now (out .exit) ≡ splice (now (out .entry)) to (write-all (morph .encode) (table morph n (drop at (now (src .entry))))) ⌝ }
+fn write_morphs(out: &mut [u8], to: usize, src: &[u8], at: usize, n: usize) -> usize
+    requires { ⌜ (at + n * 23 ≤ length (now src)) × Room (now out) to (write-all (morph .encode) (table morph n (drop at (now src)))) ⌝ }
+    ensures { λ r. ⌜ Wrote (now (out .entry)) to (write-all (morph .encode) (table morph n (drop at (now (src .entry))))) (now (out .exit)) r ⌝ }
 {
     let mut p = at;
     let mut q = to;
@@ -102,6 +105,7 @@ pub fn write_morphs(src: &[u8], at: usize, out: &mut [u8], to: usize, n: usize)
         q += MORPH_SIZE;
         left -= 1;
     }
+    q
 }
 
 // ---- cameras
@@ -117,7 +121,7 @@ fn copy_camera_front(src: &[u8], at: usize, out: &mut [u8], to: usize)
     vmd_bytes::copy_bytes(&front, 0, out, to, PERSPECTIVE);
 }
 
-pub fn write_camera(src: &[u8], at: usize, out: &mut [u8], to: usize)
+fn write_camera(src: &[u8], at: usize, out: &mut [u8], to: usize)
     requires { ⌜ (at + 61 ≤ length (now src)) × (to + 61 ≤ length (now out)) ⌝ }
     ensures { λ _. ⌜ now (out .exit) ≡ splice (now (out .entry)) to (camera .encode (camera .decode (drop at (now (src .entry))))) ⌝ }
 {
@@ -127,9 +131,9 @@ pub fn write_camera(src: &[u8], at: usize, out: &mut [u8], to: usize)
     out[to + PERSPECTIVE] = flag;
 }
 
-pub fn write_cameras(src: &[u8], at: usize, out: &mut [u8], to: usize, n: usize)
-    requires { ⌜ (at + n * 61 ≤ length (now src)) × (to + n * 61 ≤ length (now out)) ⌝ }
-    ensures { λ _. ⌜ now (out .exit) ≡ splice (now (out .entry)) to (write-all (camera .encode) (table camera n (drop at (now (src .entry))))) ⌝ }
+fn write_cameras(out: &mut [u8], to: usize, src: &[u8], at: usize, n: usize) -> usize
+    requires { ⌜ (at + n * 61 ≤ length (now src)) × Room (now out) to (write-all (camera .encode) (table camera n (drop at (now src)))) ⌝ }
+    ensures { λ r. ⌜ Wrote (now (out .entry)) to (write-all (camera .encode) (table camera n (drop at (now (src .entry))))) (now (out .exit)) r ⌝ }
 {
     let mut p = at;
     let mut q = to;
@@ -140,57 +144,63 @@ pub fn write_cameras(src: &[u8], at: usize, out: &mut [u8], to: usize, n: usize)
         q += CAMERA_SIZE;
         left -= 1;
     }
+    q
 }
 
-// ---- lights and self-shadows: no byte changes
+// ---- lights and self-shadows: no byte changes, so the records are one copy
 
-pub fn write_light(src: &[u8], at: usize, out: &mut [u8], to: usize)
-    requires { ⌜ (at + 28 ≤ length (now src)) × (to + 28 ≤ length (now out)) ⌝ }
-    ensures { λ _. ⌜ now (out .exit) ≡ splice (now (out .entry)) to (light .encode (light .decode (drop at (now (src .entry))))) ⌝ }
+fn write_lights(out: &mut [u8], to: usize, src: &[u8], at: usize, n: usize) -> usize
+    requires { ⌜ (at + n * 28 ≤ length (now src)) × Room (now out) to (write-all (light .encode) (table light n (drop at (now src)))) ⌝ }
+    ensures { λ r. ⌜ Wrote (now (out .entry)) to (write-all (light .encode) (table light n (drop at (now (src .entry))))) (now (out .exit)) r ⌝ }
 {
-    vmd_bytes::copy_bytes(src, at, out, to, LIGHT_SIZE);
+    let size = n * LIGHT_SIZE;
+    vmd_bytes::copy_bytes(src, at, out, to, size);
+    to + size
 }
 
-pub fn write_lights(src: &[u8], at: usize, out: &mut [u8], to: usize, n: usize)
-    requires { ⌜ (at + n * 28 ≤ length (now src)) × (to + n * 28 ≤ length (now out)) ⌝ }
-    ensures { λ _. ⌜ now (out .exit) ≡ splice (now (out .entry)) to (write-all (light .encode) (table light n (drop at (now (src .entry))))) ⌝ }
+fn write_self_shadows(out: &mut [u8], to: usize, src: &[u8], at: usize, n: usize) -> usize
+    requires { ⌜ (at + n * 9 ≤ length (now src)) × Room (now out) to (write-all (self-shadow .encode) (table self-shadow n (drop at (now src)))) ⌝ }
+    ensures { λ r. ⌜ Wrote (now (out .entry)) to (write-all (self-shadow .encode) (table self-shadow n (drop at (now (src .entry))))) (now (out .exit)) r ⌝ }
 {
-    vmd_bytes::copy_bytes(src, at, out, to, n * LIGHT_SIZE);
-}
-
-pub fn write_self_shadow(src: &[u8], at: usize, out: &mut [u8], to: usize)
-    requires { ⌜ (at + 9 ≤ length (now src)) × (to + 9 ≤ length (now out)) ⌝ }
-    ensures { λ _. ⌜ now (out .exit) ≡ splice (now (out .entry)) to (self-shadow .encode (self-shadow .decode (drop at (now (src .entry))))) ⌝ }
-{
-    vmd_bytes::copy_bytes(src, at, out, to, SELF_SHADOW_SIZE);
-}
-
-pub fn write_self_shadows(src: &[u8], at: usize, out: &mut [u8], to: usize, n: usize)
-    requires { ⌜ (at + n * 9 ≤ length (now src)) × (to + n * 9 ≤ length (now out)) ⌝ }
-    ensures { λ _. ⌜ now (out .exit) ≡ splice (now (out .entry)) to (write-all (self-shadow .encode) (table self-shadow n (drop at (now (src .entry))))) ⌝ }
-{
-    vmd_bytes::copy_bytes(src, at, out, to, n * SELF_SHADOW_SIZE);
+    let size = n * SELF_SHADOW_SIZE;
+    vmd_bytes::copy_bytes(src, at, out, to, size);
+    to + size
 }
 
 // ---- a kind of record as a value: the kinds that have one size
 
 // n records of a kind. The kind is looked at once, so that each has its own loop.
-pub fn write_records(out: &mut [u8], to: usize, kind: VmdKind, src: &[u8], at: usize, n: usize)
-    requires { ⌜ (at + n * size-of kind ≤ length (now src)) × (to + n * size-of kind ≤ length (now out)) ⌝ }
-    ensures { λ _. ⌜ now (out .exit) ≡ splice (now (out .entry)) to (write-all (layout kind .encode) (table (layout kind) n (drop at (now (src .entry))))) ⌝ }
+pub fn write_records(
+    out: &mut [u8],
+    to: usize,
+    kind: VmdKind,
+    src: &[u8],
+    at: usize,
+    n: usize,
+) -> usize
+    requires { ⌜ (at + n * size-of kind ≤ length (now src)) × Room (now out) to (write-all (layout kind .encode) (table (layout kind) n (drop at (now src)))) ⌝ }
+    ensures { λ r. ⌜ Wrote (now (out .entry)) to (write-all (layout kind .encode) (table (layout kind) n (drop at (now (src .entry))))) (now (out .exit)) r ⌝ }
 {
     match kind {
-        VmdKind::Bone => write_bones(src, at, out, to, n),
-        VmdKind::Morph => write_morphs(src, at, out, to, n),
-        VmdKind::Camera => write_cameras(src, at, out, to, n),
-        VmdKind::Light => write_lights(src, at, out, to, n),
-        VmdKind::SelfShadow => write_self_shadows(src, at, out, to, n),
+        VmdKind::Bone => write_bones(out, to, src, at, n),
+        VmdKind::Morph => write_morphs(out, to, src, at, n),
+        VmdKind::Camera => write_cameras(out, to, src, at, n),
+        VmdKind::Light => write_lights(out, to, src, at, n),
+        VmdKind::SelfShadow => write_self_shadows(out, to, src, at, n),
     }
+}
+
+// One record of a kind.
+pub fn write_record(out: &mut [u8], to: usize, kind: VmdKind, src: &[u8], at: usize) -> usize
+    requires { ⌜ (at + size-of kind ≤ length (now src)) × Room (now out) to (layout kind .encode (layout kind .decode (drop at (now src)))) ⌝ }
+    ensures { λ r. ⌜ Wrote (now (out .entry)) to (layout kind .encode (layout kind .decode (drop at (now (src .entry))))) (now (out .exit)) r ⌝ }
+{
+    write_records(out, to, kind, src, at, 1)
 }
 
 // ---- IK states
 
-pub fn write_ik_state(src: &[u8], at: usize, out: &mut [u8], to: usize)
+fn write_ik_state(src: &[u8], at: usize, out: &mut [u8], to: usize)
     requires { ⌜ (at + 21 ≤ length (now src)) × (to + 21 ≤ length (now out)) ⌝ }
     ensures { λ _. ⌜ now (out .exit) ≡ splice (now (out .entry)) to (ik-state .encode (ik-state .decode (drop at (now (src .entry))))) ⌝ }
 {
@@ -200,9 +210,9 @@ pub fn write_ik_state(src: &[u8], at: usize, out: &mut [u8], to: usize)
     out[to + ENABLED] = flag;
 }
 
-pub fn write_ik_states(src: &[u8], at: usize, out: &mut [u8], to: usize, n: usize)
-    requires { ⌜ (at + n * 21 ≤ length (now src)) × (to + n * 21 ≤ length (now out)) ⌝ }
-    ensures { λ _. ⌜ now (out .exit) ≡ splice (now (out .entry)) to (write-all (ik-state .encode) (table ik-state n (drop at (now (src .entry))))) ⌝ }
+fn write_ik_states(out: &mut [u8], to: usize, src: &[u8], at: usize, n: usize) -> usize
+    requires { ⌜ (at + n * 21 ≤ length (now src)) × Room (now out) to (write-all (ik-state .encode) (table ik-state n (drop at (now src)))) ⌝ }
+    ensures { λ r. ⌜ Wrote (now (out .entry)) to (write-all (ik-state .encode) (table ik-state n (drop at (now (src .entry))))) (now (out .exit)) r ⌝ }
 {
     let mut p = at;
     let mut q = to;
@@ -213,6 +223,7 @@ pub fn write_ik_states(src: &[u8], at: usize, out: &mut [u8], to: usize, n: usiz
         q += IK_STATE_SIZE;
         left -= 1;
     }
+    q
 }
 
 // ---- properties
@@ -226,10 +237,10 @@ fn property_length(src: &[u8], at: usize) -> usize
     PROPERTY_SIZE + states as usize * IK_STATE_SIZE
 }
 
-// One property frame with its IK states.
-pub fn write_property(src: &[u8], at: usize, out: &mut [u8], to: usize)
+// One property frame with its IK states. The result is the place after it.
+fn write_property(out: &mut [u8], to: usize, src: &[u8], at: usize) -> usize
     requires { ⌜ (next-frame (now src) at ≤ length (now src)) × (to + (next-frame (now src) at - at) ≤ length (now out)) ⌝ }
-    ensures { λ _. ⌜ now (out .exit) ≡ splice (now (out .entry)) to (property .write (property-in (now (src .entry)) at)) ⌝ }
+    ensures { λ r. ⌜ Wrote (now (out .entry)) to (property .write (property-in (now (src .entry)) at)) (now (out .exit)) r ⌝ }
 {
     let frame = vmd_bytes::read_u32_le(src, at);
     vmd_bytes::write_u32_le(out, to, frame);
@@ -239,23 +250,21 @@ pub fn write_property(src: &[u8], at: usize, out: &mut [u8], to: usize)
     let count = vmd_bytes::read_u32_le(src, at + IK_COUNT);
     vmd_bytes::write_u32_le(out, to + IK_COUNT, count);
     let states = count as usize;
-    write_ik_states(src, at + PROPERTY_SIZE, out, to + PROPERTY_SIZE, states);
+    write_ik_states(out, to + PROPERTY_SIZE, src, at + PROPERTY_SIZE, states)
 }
 
-// n property frames one after another. The result is the place after what was written.
-pub fn write_properties(src: &[u8], at: usize, out: &mut [u8], to: usize, n: usize) -> usize
-    requires { ⌜ Reaches (now src) n at × (to + length (write-all (property .write) (frames-in (now src) n at)) ≤ length (now out)) ⌝ }
-    ensures { λ r. ⌜ (now (out .exit) ≡ splice (now (out .entry)) to (write-all (property .write) (frames-in (now (src .entry)) n at)))
-        × (r ≡ to + length (write-all (property .write) (frames-in (now (src .entry)) n at))) ⌝ }
+// n property frames one after another.
+pub fn write_properties(out: &mut [u8], to: usize, src: &[u8], at: usize, n: usize) -> usize
+    requires { ⌜ Reaches (now src) n at × Room (now out) to (write-all (property .write) (frames-in (now src) n at)) ⌝ }
+    ensures { λ r. ⌜ Wrote (now (out .entry)) to (write-all (property .write) (frames-in (now (src .entry)) n at)) (now (out .exit)) r ⌝ }
 {
     let mut p = at;
     let mut q = to;
     let mut left = n;
     while 0 < left {
         let size = property_length(src, p);
-        write_property(src, p, out, q);
+        q = write_property(out, q, src, p);
         p += size;
-        q += size;
         left -= 1;
     }
     q

@@ -6,7 +6,7 @@ use lib.ListN.{length}
 use borrow.Author.Needs.{needs}
 use Rattle.vmd_format.specs.Records.{camera}
 use Rattle.vmd_format.specs.Parts.{camera-check}
-use Rattle.vmd_writers.proofs.Sections.{camera-sized}
+use Rattle.vmd_format.specs.SizedLaws.{camera-sized}
 use Rattle.vmd_names.specs.Meaning.{check-of}
 use Rattle.vmd_checks.proofs.Records.{Checking, records-start, records-are, checking-lies, checking-fails, checking-turn, checking-end}
 use Rattle.vmd_checks.proofs.cameras_check.Statement.{statement}

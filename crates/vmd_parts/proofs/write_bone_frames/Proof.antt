@@ -4,16 +4,16 @@ use native.Mathlib.Omega.{arith}
 use lib.ListN.{length, getD}
 use borrow.Author.Needs.{needs}
 use Rattle.vmd_format.specs.Records.{bone}
-use Rattle.vmd_writers.proofs.Sections.{bone-sized}
+use Rattle.vmd_format.specs.SizedLaws.{bone-sized}
 use Rattle.vmd_checks.specs.Meaning.{table-of, bits}
 use Rattle.vmd_parts.specs.Stages.{bone-of}
-use Rattle.vmd_parts.proofs.Filling.{Filling, filling-start, filling-room, filling-turn, filling-end, bone-index, bone-there, bone-named, bone-is}
+use Rattle.vmd_parts.proofs.Filling.{Columned, columned-start, columned-room, columned-turn, columned-end, bone-index, bone-there, bone-named, bone-is}
 use Rattle.vmd_parts.proofs.write_bone_frames.Statement.{statement}
 use Rattle.vmd_parts.proofs.write_bone_frames.Tie as tie
 
 abbrev Inv-loop : tie.InvT-loop
 Inv-loop bytes ends indices frames translations rotations interpolations out₀ to i₀ q₀ out i q =
-    Filling (bone .encode) 111 (bone-of (table-of bytes ends) indices frames (bits translations) (bits rotations) interpolations) (length indices) out₀ to out i q
+    Columned (bone .encode) 111 (bone-of (table-of bytes ends) indices frames (bits translations) (bits rotations) interpolations) (length indices) out₀ to out i q
 
 abbrev μ-loop : tie.MeasureT-loop
 μ-loop bytes ends indices frames translations rotations interpolations out₀ to i₀ q₀ out i q = length indices - i
@@ -52,7 +52,7 @@ write-bone-frame-requires c κs =
     let l = n .before .before .before in
     let s = l .before .before .before .before .before .before .before .before .before in
     let d = bone-named (s .pre .0) (l .loop .i) (omega arith) (n .name-start .ensures) in
-    (d .short, omega (arith, d .begins, d .within), bone-there (s .pre .0) (l .loop .i) (omega arith), filling-room (l .loop .inv) (omega arith))
+    (d .short, omega (arith, d .begins, d .within), bone-there (s .pre .0) (l .loop .i) (omega arith), columned-room (l .loop .inv) (omega arith))
 
 loop-again : tie.Need-loop-again Inv-loop μ-loop
 loop-again c =
@@ -61,13 +61,13 @@ loop-again c =
     let l = n .before .before .before in
     let s = l .before .before .before .before .before .before .before .before .before in
     let a = s .args in
-    filling-turn (l .loop .inv) (omega arith) (w .write-bone-frame .ensures)
+    columned-turn (l .loop .inv) (omega arith) (w .write-bone-frame .ensures)
     (bone-is (table-of (a .bone-name-bytes .now) (a .bone-name-ends .now)) (a .indices .now) (a .frames .now) _ _ (a .interpolations .now) (l .loop .i) (bone-there (s .pre .0) (l .loop .i) (omega arith))
     (bone-named (s .pre .0) (l .loop .i) (omega arith) (n .name-start .ensures) .is))
 
 pub write-bone-frames-spec : {M : Type 1} → statement M
 write-bone-frames-spec =
-    tie.close (tie.spec Inv-loop μ-loop (λ c. filling-start (bone-sized .wide) (c .before .before .before .before .before .before .before .before .pre .1)) (λ c. search needs) (λ c. search needs) (λ c. omega (arith, c .shared-slice-known8 .given (c .before .before .loop .i))) name-start-requires
+    tie.close (tie.spec Inv-loop μ-loop (λ c. columned-start (bone-sized .wide) (c .before .before .before .before .before .before .before .before .pre .1)) (λ c. search needs) (λ c. search needs) (λ c. omega (arith, c .shared-slice-known8 .given (c .before .before .loop .i))) name-start-requires
     (λ c. omega (arith, c .before .shared-slice-known8 .given (c .before .before .before .loop .i))) shared-slice-read-n cast-n sub-n (λ c. omega arith)
-    shared-slice-read-write-bone-frame write-bone-frame-requires (λ c. omega (arith, filling-room (c .before .before .before .before .before .before .before .before .before .loop .inv) (omega arith))) (λ c. search needs) (λ c. omega arith) loop-again
-    (λ c. c .before .loop .inv .rest .kept) (λ c. filling-end (c .before .loop .inv) (c .loop-test .left)))
+    shared-slice-read-write-bone-frame write-bone-frame-requires (λ c. omega (arith, columned-room (c .before .before .before .before .before .before .before .before .before .loop .inv) (omega arith))) (λ c. search needs) (λ c. omega arith) loop-again
+    (λ c. c .before .loop .inv .fill .rest .kept) (λ c. columned-end (c .before .loop .inv) (c .loop-test .left)))

@@ -4,17 +4,17 @@ use native.Mathlib.Omega.{arith}
 use lib.ListN.{length, getD}
 use borrow.Author.Needs.{needs}
 use Rattle.vmd_format.specs.Records.{morph}
-use Rattle.vmd_writers.proofs.Sections.{morph-sized}
+use Rattle.vmd_format.specs.SizedLaws.{morph-sized}
 use Rattle.vmd_checks.specs.Meaning.{table-of, bits}
 use Rattle.vmd_parts.specs.Stages.{morph-of}
 use Rattle.vmd_parts.proofs.Writing.{bits-length}
-use Rattle.vmd_parts.proofs.Filling.{Filling, filling-start, filling-room, filling-turn, filling-end, morph-index, morph-finite, morph-named, morph-is}
+use Rattle.vmd_parts.proofs.Filling.{Columned, columned-start, columned-room, columned-turn, columned-end, morph-index, morph-finite, morph-named, morph-is}
 use Rattle.vmd_parts.proofs.write_morph_frames.Statement.{statement}
 use Rattle.vmd_parts.proofs.write_morph_frames.Tie as tie
 
 abbrev Inv-loop : tie.InvT-loop
 Inv-loop bytes ends indices frames weights out₀ to i₀ q₀ out i q =
-    Filling (morph .encode) 23 (morph-of (table-of bytes ends) indices frames (bits weights)) (length indices) out₀ to out i q
+    Columned (morph .encode) 23 (morph-of (table-of bytes ends) indices frames (bits weights)) (length indices) out₀ to out i q
 
 abbrev μ-loop : tie.MeasureT-loop
 μ-loop bytes ends indices frames weights out₀ to i₀ q₀ out i q = length indices - i
@@ -64,7 +64,7 @@ write-morph-frame-requires c κs =
       d .short,
       omega (arith, d .begins, d .within),
       morph-finite (s .args .weights .now) (s .pre .0) (l .loop .i) (omega arith) (omega (arith, s .pre .0 .weighed, bits-length (s .args .weights .now))),
-      filling-room (l .loop .inv) (omega arith),
+      columned-room (l .loop .inv) (omega arith),
     )
 
 loop-again : tie.Need-loop-again Inv-loop μ-loop
@@ -74,14 +74,14 @@ loop-again c =
     let l = n .before .before .before in
     let s = l .before .before .before .before .before .before .before in
     let a = s .args in
-    filling-turn (l .loop .inv) (omega arith) (w .write-morph-frame .ensures)
+    columned-turn (l .loop .inv) (omega arith) (w .write-morph-frame .ensures)
     (morph-is (table-of (a .morph-name-bytes .now) (a .morph-name-ends .now)) (a .indices .now) (a .frames .now) (a .weights .now) (l .loop .i)
     (omega (arith, s .pre .0 .weighed, bits-length (a .weights .now))) (morph-named (a .weights .now) (s .pre .0) (l .loop .i) (omega arith) (n .name-start .ensures) .is))
 
 pub write-morph-frames-spec : {M : Type 1} → statement M
 write-morph-frames-spec =
-    tie.close (tie.spec Inv-loop μ-loop (λ c. filling-start (morph-sized .wide) (c .before .before .before .before .before .before .pre .1)) (λ c. search needs) (λ c. search needs) (λ c. omega (arith, c .shared-slice-known6 .given (c .before .before .loop .i))) name-start-requires
+    tie.close (tie.spec Inv-loop μ-loop (λ c. columned-start (morph-sized .wide) (c .before .before .before .before .before .before .pre .1)) (λ c. search needs) (λ c. search needs) (λ c. omega (arith, c .shared-slice-known6 .given (c .before .before .loop .i))) name-start-requires
     (λ c. omega (arith, c .before .shared-slice-known6 .given (c .before .before .before .loop .i))) shared-slice-read-n cast-n sub-n (λ c. omega arith)
     shared-slice-read-write-morph-frame mul-write-morph-frame-2 shared-slice-read-write-morph-frame-2 write-morph-frame-requires
-    (λ c. omega (arith, filling-room (c .before .before .before .before .before .before .before .before .before .before .loop .inv) (omega arith))) (λ c. search needs) (λ c. omega arith) loop-again
-    (λ c. c .before .loop .inv .rest .kept) (λ c. filling-end (c .before .loop .inv) (c .loop-test .left)))
+    (λ c. omega (arith, columned-room (c .before .before .before .before .before .before .before .before .before .before .loop .inv) (omega arith))) (λ c. search needs) (λ c. omega arith) loop-again
+    (λ c. c .before .loop .inv .fill .rest .kept) (λ c. columned-end (c .before .loop .inv) (c .loop-test .left)))

@@ -12,8 +12,8 @@ write-count-requires c κs =
     let s = p .before .before .before in
     rest-room _ (frames-rest (now (s .args .src)) (s .pre .1) (p .property-count .ensures) (s .pre .2))
 
-write-frames-requires : tie.Need-write-frames-requires
-write-frames-requires c κs =
+write-properties-requires : tie.Need-write-properties-requires
+write-properties-requires c κs =
     let w = c .before .before .before in
     let p = w .before .before in
     let s = p .before .before .before in
@@ -25,9 +25,9 @@ returns c =
     let a = w .before .before .before .before in
     let p = a .before .before in
     let s = p .before .before .before in
-    rest-done (rest-then _ (frames-rest (now (s .args .src)) (s .pre .1) (p .property-count .ensures) (s .pre .2)) (a .write-count .ensures)) (w .write-frames .ensures)
+    rest-done (rest-then _ (frames-rest (now (s .args .src)) (s .pre .1) (p .property-count .ensures) (s .pre .2)) (a .write-count .ensures)) (w .write-properties .ensures)
 
 pub write-property-section-spec : {M : Type 1} → statement M
 write-property-section-spec =
     tie.close (tie.spec
-    (λ c κs. search needs) (λ c. search needs) write-count-requires write-frames-requires (λ c. search needs) returns)
+    (λ c κs. search needs) (λ c. search needs) write-count-requires write-properties-requires (λ c. search needs) returns)

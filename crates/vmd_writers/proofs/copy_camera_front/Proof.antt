@@ -2,7 +2,7 @@
 use native.Mathlib.Omega.{arith}
 use denote.Ref.{now}
 use borrow.Author.Needs.{needs}
-use Rattle.vmd_writers.proofs.Rewriting.{through}
+use Rattle.vmd_writers.proofs.Records.{through}
 use Rattle.vmd_writers.proofs.copy_camera_front.Statement.{statement}
 use Rattle.vmd_writers.proofs.copy_camera_front.Tie as tie
 

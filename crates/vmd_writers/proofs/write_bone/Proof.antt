@@ -2,7 +2,8 @@
 use native.Mathlib.Omega.{arith}
 use denote.Ref.{now}
 use borrow.Author.Needs.{needs}
-use Rattle.vmd_writers.proofs.Rewriting.{named, bone-rewrites}
+use Rattle.vmd_format.specs.Rewriting.{bone-rewrites}
+use Rattle.vmd_writers.proofs.Records.{named}
 use Rattle.vmd_writers.proofs.write_bone.Statement.{statement}
 use Rattle.vmd_writers.proofs.write_bone.Tie as tie
 

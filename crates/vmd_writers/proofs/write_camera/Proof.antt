@@ -4,7 +4,8 @@ use denote.Ref.{now}
 use borrow.Author.Needs.{needs}
 use Rattle.vmd_format.specs.Bytes.{is-zero, inverted-byte}
 use Rattle.vmd_bytes.proofs.Laws.{length-part}
-use Rattle.vmd_writers.proofs.Rewriting.{flagged, camera-rewrites}
+use Rattle.vmd_format.specs.Rewriting.{camera-rewrites}
+use Rattle.vmd_writers.proofs.Records.{flagged}
 use Rattle.vmd_writers.proofs.write_camera.Statement.{statement}
 use Rattle.vmd_writers.proofs.write_camera.Tie as tie
 

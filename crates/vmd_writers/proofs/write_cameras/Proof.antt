@@ -1,22 +1,25 @@
 -- `vmd_writers::write_cameras` meets its contract. Assumes nothing.
 use native.Mathlib.Omega.{arith}
+use lib.ListN.{drop}
+use Rattle.vmd_format.specs.Read.{table, write-all}
 use Rattle.vmd_format.specs.Records.{camera}
-use Rattle.vmd_writers.proofs.Sections.{Going, camera-sized, going-start, going-turn, going-end}
+use Rattle.vmd_format.specs.SizedLaws.{camera-sized}
+use Rattle.vmd_writers.proofs.Records.{Going, going-start, going-turn, going-end}
 use Rattle.vmd_writers.proofs.write_cameras.Statement.{statement}
 use Rattle.vmd_writers.proofs.write_cameras.Tie as tie
 
 abbrev Inv-loop : tie.InvT-loop
-Inv-loop src at out₀ to n p₀ q₀ left₀ out p q left = Going camera 61 src at out₀ to n out p q left
+Inv-loop out₀ to src at n p₀ q₀ left₀ out p q left = Going camera 61 src out₀ to (write-all (camera .encode) (table camera n (drop at src))) out p q left
 
 abbrev μ-loop : tie.MeasureT-loop
-μ-loop src at out₀ to n p₀ q₀ left₀ out p q left = left
+μ-loop out₀ to src at n p₀ q₀ left₀ out p q left = left
 
 loop-again : tie.Need-loop-again Inv-loop μ-loop
 loop-again c =
     let turn = c .before .before in
-    going-turn camera-sized (turn .before .before .before .loop .inv) (omega arith) (turn .write-camera .kept .1 .1 .0) (turn .write-camera .ensures)
+    going-turn camera-sized (turn .before .before .before .loop .inv) (omega arith) (turn .write-camera .ensures)
 
 pub write-cameras-spec : {M : Type 1} → statement M
 write-cameras-spec =
-    tie.close (tie.spec Inv-loop μ-loop (λ c. going-start (omega arith) (omega arith)) (λ c κs. omega arith) (λ c. omega arith) (λ c. omega arith)
-    (λ c. omega arith) (λ c. omega arith) loop-again (λ c. c .before .loop .inv .kept) (λ c. going-end (c .before .loop .inv) (omega arith)))
+    tie.close (tie.spec Inv-loop μ-loop (λ c. going-start camera-sized (c .before .before .pre .0) (c .before .before .pre .1)) (λ c κs. omega arith) (λ c. omega arith) (λ c. omega arith)
+    (λ c. omega arith) (λ c. omega arith) loop-again (λ c. c .before .loop .inv .fill .rest .kept) (λ c. going-end camera-sized (c .before .loop .inv) (omega arith)))

@@ -3,8 +3,9 @@ use native.Mathlib.Omega.{arith}
 use denote.Ref.{now}
 use borrow.Author.Needs.{needs}
 use Rattle.vmd_format.specs.Bytes.{before-zero, padded, is-set, flag-byte}
-use Rattle.vmd_bytes.proofs.Laws.{length-padded}
-use Rattle.vmd_writers.proofs.Rewriting.{flagged, ik-state-rewrites}
+use Rattle.vmd_format.specs.BytesLaws.{padded-length}
+use Rattle.vmd_format.specs.Rewriting.{ik-state-rewrites}
+use Rattle.vmd_writers.proofs.Records.{flagged}
 use Rattle.vmd_writers.proofs.write_ik_state.Statement.{statement}
 use Rattle.vmd_writers.proofs.write_ik_state.Tie as tie
 
@@ -13,7 +14,7 @@ returns c =
     let front = c .before .before .before .before in
     let known = front .before .before .before in
     let s = known .before .args in
-    flagged (now (s .src)) (now (s .out)) (s .at) (s .to) (λ i. known .shared-slice-known .given i .fits) 20 (λ u. padded 20 (before-zero u)) (λ b. flag-byte (is-set b)) ik-state-rewrites (length-padded _ _) (omega arith) (omega arith)
+    flagged (now (s .src)) (now (s .out)) (s .at) (s .to) (λ i. known .shared-slice-known .given i .fits) 20 (λ u. padded 20 (before-zero u)) (λ b. flag-byte (is-set b)) ik-state-rewrites (padded-length _ _) (omega arith) (omega arith)
     (front .write-name .ensures) (c .canonical-flag .ensures)
 
 pub write-ik-state-spec : {M : Type 1} → statement M

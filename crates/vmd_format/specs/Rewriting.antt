@@ -3,15 +3,12 @@ use Prim.Native.Nat.{ℕ, zero, suc, _+_, _*_, _/_, _≤_, _<_}
 use mathlib.Core.Path.{_≡_, refl, ap, ap₂, sym, _∙_}
 use mathlib.Core.List.{List, [], _∷_, _++_, append-assoc}
 use native.Mathlib.Omega.{arith}
-use native.Mathlib.Nat.{add-zero}
-use lib.ListN.{length, getD, set, take, drop, length-drop}
-use lib.Seq.{drop-drop, take-add, take-at, getD-drop}
+use lib.ListN.{length, getD, take, drop, length-drop}
+use lib.Seq.{drop-drop, take-add}
 use Rattle.vmd_format.specs.Bytes.{u32, u32-bytes, before-zero, padded, is-set, flag-byte, is-zero, inverted-byte}
 use Rattle.vmd_format.specs.BytesLaws.{Bytes, bytes-drop}
 use Rattle.vmd_format.specs.Layout.{Layout, number, byte, flag, inverted, name, raw, _⊗_, as-record}
 use Rattle.vmd_format.specs.Records.{bone, morph, camera, light, self-shadow, ik-state}
-use Rattle.vmd_bytes.specs.Slices.{splice, part}
-use Rattle.vmd_bytes.proofs.Laws.{splice-snoc-at, length-part, name-wider}
 
 -- w bytes of this layout at the front of s, read and written again, are f s
 pub record Rewrites {A : Type 0} (K : Layout A) (w : ℕ) (f : List ℕ → List ℕ) : Type 0 where
@@ -40,7 +37,7 @@ number-is (a ∷ b ∷ []) h l = absurd (omega arith)
 number-is (a ∷ b ∷ c ∷ []) h l = absurd (omega arith)
 number-is (a ∷ b ∷ c ∷ d ∷ s) h l = four-bytes a b c d (a + 256 * b + 65536 * c + 16777216 * d) (h 0) (h 1) (h 2) (h 3) refl
 
-pub number-rewrites : Rewrites number 4 (take 4)
+number-rewrites : Rewrites number 4 (take 4)
 unfolding number
 number-rewrites = record { size = refl; is = number-is }
 
@@ -48,36 +45,36 @@ byte-is : (s : List ℕ) → 1 ≤ length s → getD s 0 0 ∷ [] ≡ take 1 s
 byte-is [] l = absurd (omega arith)
 byte-is (a ∷ s) l = refl
 
-pub byte-rewrites : Rewrites byte 1 (take 1)
+byte-rewrites : Rewrites byte 1 (take 1)
 unfolding byte
 byte-rewrites = record { size = refl; is = λ s h l. byte-is s l }
 
-pub flag-rewrites : Rewrites flag 1 (λ s. flag-byte (is-set (getD s 0 0)) ∷ [])
+flag-rewrites : Rewrites flag 1 (λ s. flag-byte (is-set (getD s 0 0)) ∷ [])
 unfolding flag
 flag-rewrites = record { size = refl; is = λ s h l. refl }
 
-pub inverted-rewrites : Rewrites inverted 1 (λ s. inverted-byte (is-zero (getD s 0 0)) ∷ [])
+inverted-rewrites : Rewrites inverted 1 (λ s. inverted-byte (is-zero (getD s 0 0)) ∷ [])
 unfolding inverted
 inverted-rewrites = record { size = refl; is = λ s h l. refl }
 
-pub name-rewrites : (n : ℕ) → Rewrites (name n) n (λ s. padded n (before-zero (take n s)))
+name-rewrites : (n : ℕ) → Rewrites (name n) n (λ s. padded n (before-zero (take n s)))
 unfolding name
 name-rewrites n = record { size = refl; is = λ s h l. refl }
 
-padded-take : (n : ℕ) (s : List ℕ) → n ≤ length s → padded n (take n s) ≡ take n s
+pub padded-front : (n : ℕ) (s : List ℕ) → n ≤ length s → padded n (take n s) ≡ take n s
 unfolding padded
-padded-take zero s h = refl
-padded-take (suc n) [] h = absurd (omega arith)
-padded-take (suc n) (b ∷ s) h = ap {B = List ℕ} (λ r. b ∷ r) (padded-take n s (omega arith))
+padded-front zero s h = refl
+padded-front (suc n) [] h = absurd (omega arith)
+padded-front (suc n) (b ∷ s) h = ap {B = List ℕ} (λ r. b ∷ r) (padded-front n s (omega arith))
 
-pub raw-rewrites : (n : ℕ) → Rewrites (raw n) n (take n)
+raw-rewrites : (n : ℕ) → Rewrites (raw n) n (take n)
 unfolding raw
-raw-rewrites n = record { size = refl; is = λ s h l. padded-take n s l }
+raw-rewrites n = record { size = refl; is = λ s h l. padded-front n s l }
 
 -- ---- fields one after another
 
 module _ {A B : Type 0} {K : Layout A} {L : Layout B} {m n : ℕ} where
-  pub both-rewrite : {f g : List ℕ → List ℕ} → Rewrites K m f → Rewrites L n g → Rewrites (K ⊗ L) (m + n) (λ s. f s ++ g (drop m s))
+  both-rewrite : {f g : List ℕ → List ℕ} → Rewrites K m f → Rewrites L n g → Rewrites (K ⊗ L) (m + n) (λ s. f s ++ g (drop m s))
   unfolding _⊗_
   both-rewrite k l = record {
     size = ap₂ _+_ (k .size) (l .size);
@@ -85,11 +82,11 @@ module _ {A B : Type 0} {K : Layout A} {L : Layout B} {m n : ℕ} where
   }
 
   -- two fields that stay as they are, as one
-  pub stays : Rewrites K m (take m) → Rewrites L n (take n) → Rewrites (K ⊗ L) (m + n) (take (m + n))
+  stays : Rewrites K m (take m) → Rewrites L n (take n) → Rewrites (K ⊗ L) (m + n) (take (m + n))
   stays k l = record { size = both-rewrite k l .size; is = λ s h o. both-rewrite k l .is s h o ∙ sym (take-add m n s) }
 
   -- the same before p bytes that stay and a field that changes
-  pub stays-before : (p : ℕ) (g : List ℕ → List ℕ) → Rewrites K m (take m) → Rewrites L n (λ s. take p s ++ g (drop p s))
+  stays-before : (p : ℕ) (g : List ℕ → List ℕ) → Rewrites K m (take m) → Rewrites L n (λ s. take p s ++ g (drop p s))
       → Rewrites (K ⊗ L) (m + n) (λ s. take (m + p) s ++ g (drop (m + p) s))
   stays-before p g k l = record {
     size = both-rewrite k l .size;
@@ -97,7 +94,7 @@ module _ {A B : Type 0} {K : Layout A} {L : Layout B} {m n : ℕ} where
   }
 
 -- the fields under names of their own
-pub renamed : {A B : Type 0} {K : Layout A} {w : ℕ} {h : List ℕ → List ℕ} (f : A → B) (g : B → A) → ((a : A) → g (f a) ≡ a) → Rewrites K w h → Rewrites (as-record f g K) w h
+renamed : {A B : Type 0} {K : Layout A} {w : ℕ} {h : List ℕ → List ℕ} (f : A → B) (g : B → A) → ((a : A) → g (f a) ≡ a) → Rewrites K w h → Rewrites (as-record f g K) w h
 unfolding as-record
 renamed {K = K} f g e k = record { size = k .size; is = λ s b l. ap (K .encode) (e (K .decode s)) ∙ k .is s b l }
 
@@ -138,39 +135,3 @@ self-shadow-rewrites = renamed _ _ (λ a. refl) (word (stays byte-rewrites numbe
 pub ik-state-rewrites : Rewrites ik-state 21 (λ s. padded 20 (before-zero (take 20 s)) ++ (flag-byte (is-set (getD (drop 20 s) 0 0)) ∷ []))
 unfolding ik-state
 ik-state-rewrites = renamed _ _ (λ a. refl) (both-rewrite (name-rewrites 20) flag-rewrites)
-
--- ---- records at a place, as code writes them
-
--- a copy through an array: what is written at its front is what is read there
-pub through : {m o : List ℕ} (r s l : List ℕ) (at to n : ℕ) → at + n ≤ length s → m ≡ splice r 0 (part s at n) → o ≡ splice l to (part m 0 n) → o ≡ splice l to (part s at n)
-unfolding splice part
-through r s l at to n h e f = f ∙ rw (e, take-at (part s at n) (drop (0 + length (part s at n)) r) n (length-part s at n h))
-
-module _ {A : Type 0} {K : Layout A} (s l : List ℕ) (at to : ℕ) (b : Bytes s) where
-  pub rewritten : (w : ℕ) (f : List ℕ → List ℕ) → Rewrites K w f → at + w ≤ length s → K .encode (K .decode (drop at s)) ≡ f (drop at s)
-  rewritten w f r h = r .is (drop at s) (bytes-drop at s b) (rw length-drop (omega arith))
-
-  -- bytes that stay are copied
-  pub copied : {o : List ℕ} (w : ℕ) → Rewrites K w (take w) → at + w ≤ length s
-      → o ≡ splice l to (part s at w) → o ≡ splice l to (K .encode (K .decode (drop at s)))
-  unfolding part
-  copied w r h e = e ∙ ap (splice l to) (sym (rewritten w (take w) r h))
-
-  -- a name is written one byte too wide, and then the n bytes after it
-  pub named : {m o : List ℕ} (w n : ℕ) → Rewrites K (w + n) (λ s. padded w (before-zero (take w s)) ++ take n (drop w s))
-      → 1 ≤ n → at + (w + n) ≤ length s → to + (w + n) ≤ length l
-      → m ≡ splice l to (padded (w + 1) (before-zero (part s at (w + 1)))) → o ≡ splice m (to + w) (part s (at + w) n)
-      → o ≡ splice l to (K .encode (K .decode (drop at s)))
-  unfolding part
-  named w n r h hs hl e f =
-      let k : length (part s (at + w) n) ≡ n = length-part s (at + w) n (omega arith) in
-      f ∙ rw e (name-wider s l (part s (at + w) n) at to w 1 (omega arith) (omega arith) (omega arith) ∙ rw (rewritten (w + n) _ r hs, drop-drop))
-
-  -- w bytes are written, and then a flag
-  pub flagged : {m : List ℕ} {v : ℕ} (w : ℕ) (f : List ℕ → List ℕ) (g : ℕ → ℕ) → Rewrites K (w + 1) (λ s. f (take w s) ++ (g (getD (drop w s) 0 0) ∷ []))
-      → length (f (part s at w)) ≡ w → at + (w + 1) ≤ length s → to + (w + 1) ≤ length l
-      → m ≡ splice l to (f (part s at w)) → v ≡ g (getD s (at + w) 0)
-      → set m (to + w) v ≡ splice l to (K .encode (K .decode (drop at s)))
-  unfolding part
-  flagged w f g r k hs hl e q =
-      rw (e, q) (splice-snoc-at l to (f (part s at w)) w (g (getD s (at + w) 0)) k (omega arith) ∙ rw (rewritten (w + 1) _ r hs, drop-drop, getD-drop, add-zero))
