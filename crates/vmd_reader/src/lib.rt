@@ -100,11 +100,11 @@ fn open_sections(file: &[u8], sections: VmdSections, scratch: &mut [u64]) -> Vmd
     if scratch.len() < n {
         return VmdOpened::Refused(VmdRefusal::ScratchTooShort);
     }
-    let max_frame = vmd_scan::max_frame(file, sections);
+    let frames = vmd_scan::frames_of(file, sections);
     vmd_scan::write_frame_places(file, place, n, scratch);
     VmdOpened::Opened(VmdOpening {
         sections,
-        max_frame,
+        max_frame: frames.largest,
     })
 }
 

@@ -127,9 +127,6 @@ back-starts o s at b e = rw e at (one (optional-span o 28 s at))
     one (declined k) = tt
     one (given l) = two (optional-span o 9 s (l .next)) l
 
-max-assoc : (a b c : ℕ) → max (max a b) c ≡ max a (max b c)
-max-assoc a b c = omega arith
-
 -- ---- property frames
 
 frame-ends : (s : List ℕ) (at : ℕ) → next-frame s at ≡ at + 9 + u32 (drop (at + 5) s) * 21
@@ -182,13 +179,6 @@ module _ (s : List ℕ) (n i at : ℕ) (h : i < n) where
   unfolding Reaches
   reaches-next r = rw left at r
 
-  pub largest-next : (x best top : ℕ) → x ≡ u32 (drop at s) → max best (largest-frame-of s (n - i) at) ≡ top
-      → max (max best x) (largest-frame-of s (n - (i + 1)) (next-frame s at)) ≡ top
-  unfolding largest-frame-of
-  largest-next x best top e q =
-      let p : max best (max (u32 (drop at s)) (largest-frame-of s (n - (i + 1)) (next-frame s at))) ≡ top = rw left at q in
-      rw (e, max-assoc) p
-
   pub places-next : (scratch all : List ℕ) → i < length scratch → take i scratch ++ (frame-places s (n - i) at ++ drop n scratch) ≡ all
       → take (i + 1) (set scratch i at) ++ (frame-places s (n - (i + 1)) (next-frame s at) ++ drop n (set scratch i at)) ≡ all
   unfolding frame-places
@@ -198,10 +188,6 @@ module _ (s : List ℕ) (n i at : ℕ) (h : i < n) where
       rw (t, drop-set-lt n scratch i at h, append-assoc) p
 
 -- all n frames have been passed
-pub largest-done : (s : List ℕ) (n i at best top : ℕ) → n ≤ i → max best (largest-frame-of s (n - i) at) ≡ top → best ≡ top
-unfolding largest-frame-of
-largest-done s n i at best top h q = let z : n - i ≡ 0 = omega arith in rw (z, max-zero) at q
-
 pub places-done : (s : List ℕ) (n i at : ℕ) (scratch all : List ℕ) → i ≡ n → take i scratch ++ (frame-places s (n - i) at ++ drop n scratch) ≡ all → scratch ≡ all
 unfolding frame-places
 places-done s n i at scratch all h q =
@@ -217,19 +203,6 @@ module _ (s : List ℕ) (size n i at : ℕ) where
       let e : n - i ≡ suc (n - (i + 1)) = omega arith in
       let p : at + suc (n - (i + 1)) * size ≤ length s = rw e at l in
       omega arith
-
-  module _ (offset : ℕ) where
-    pub record-next : i < n → (x best top : ℕ) → x ≡ u32 (drop (at + offset) s) → max best (largest-of offset size (n - i) (drop at s)) ≡ top
-        → max (max best x) (largest-of offset size (n - (i + 1)) (drop (at + size) s)) ≡ top
-    unfolding largest-of
-    record-next h x best top e q =
-        let l : n - i ≡ suc (n - (i + 1)) = omega arith in
-        let p : max best (max (u32 (drop offset (drop at s))) (largest-of offset size (n - (i + 1)) (drop size (drop at s)))) ≡ top = rw l at q in
-        rw (e, max-assoc, ← drop-drop offset at s, ← drop-drop size at s) p
-
-    pub records-done : n ≤ i → (best top : ℕ) → max best (largest-of offset size (n - i) (drop at s)) ≡ top → best ≡ top
-    unfolding largest-of
-    records-done h best top q = let z : n - i ≡ 0 = omega arith in rw (z, max-zero) at q
 
 -- ---- for callers
 
