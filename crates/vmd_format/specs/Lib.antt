@@ -22,6 +22,8 @@ pub mod SavingLaws
 pub mod PlacesLaws
 pub mod ScanLaws
 pub mod OpeningLaws
+pub mod InsideLaws
+pub mod EarlyLaws
 pub mod FetchLaws
 pub mod Computed
 pub mod Takes

@@ -1,6 +1,6 @@
 -- Laws of scanning: its steps make the format's scan, turns of the loops over frames, and what callers know of a scan. Assumes nothing.
 use Prim.Native.Nat.{ℕ, zero, suc, _+_, _*_, _-_, _≤_, _<_, max}
-use mathlib.Core.Path.{_≡_, refl, sym, _∙_}
+use mathlib.Core.Path.{_≡_, refl, sym, ap, _∙_}
 use mathlib.Core.Bool.{Bool, true, false}
 use mathlib.Core.List.{List, [], _∷_, _++_, append-assoc}
 use native.Mathlib.Nat.{max-zero, mul-le-mul-left}
@@ -11,15 +11,17 @@ use lib.Dec.{leb}
 use lib.ListN.{length, take, drop, set, take-append-drop}
 use lib.Seq.{drop-drop, take-suc-set, drop-set-lt}
 use Rattle.vmd_format.specs.Bytes.{u32}
-use Rattle.vmd_format.specs.Refusal.{file-ends-early}
+use Rattle.vmd_format.specs.Refusal.{Refusal, file-ends-early}
 use Rattle.vmd_format.specs.Answer.{Answer, declined, given, and-then, map-answer}
 use Rattle.vmd_format.specs.Read.{Step, refused, got, Oversized, refuse, Manner}
 use Rattle.vmd_format.specs.Take.{File, header, read-file, sections}
 use Rattle.vmd_format.specs.Fetch.{model-of}
 use Rattle.vmd_format.specs.Opening.{Scan}
-use Rattle.vmd_format.specs.Places.{place-after, header-place, Span, part-in, no-span, records-span, count-span, span, optional-if, optional-span, Walk, walk-on, walk, scan-sections, scan-file, largest-of, next-frame, largest-frame-of, frame-places, Reaches}
+use Rattle.vmd_format.specs.Places.{header-place, HeaderPlaces, header-places, Span, part-in, no-span, records-span, count-span, span, optional-if, optional-span, Walk, walk-on, walk, scan-sections, scan-file, largest-of, next-frame, largest-frame-of, frame-places, Reaches}
 use Rattle.vmd_format.specs.PlacesLaws.{Holds, Within, optional-within, Frame, frame-span, walk-next}
-use Rattle.vmd_format.specs.ScanLaws.{Inside, Matches, file-agrees}
+use Rattle.vmd_format.specs.ScanLaws.{Headed, headed, no-model}
+use Rattle.vmd_places.specs.Parts.{file-part, Cuts, name-in}
+use Rattle.vmd_places.proofs.Parts.{front-name, no-bytes, front-cuts}
 use Rattle.vmd_scan.specs.Stages.{Numbered, number-if, read-number, Optional, nothing, there, optional-number-if, optional-number, counted-if, counted-span, Back, scan-front, scan-back, scan-end}
 
 -- records of at most 111 bytes, as many as a count says, fit a size
@@ -77,14 +79,44 @@ module _ (o : Oversized) (size : ℕ) (s : List ℕ) (at : ℕ) where
 
 -- ---- the header, three sections, three more, and the end are the scan
 
--- the sections begin in the file
-pub header-starts : (s : List ℕ) (at : ℕ) → header-place s ≡ given at → at ≤ length s
-unfolding header-place place-after
-header-starts s at e = rw e at (go (header s))
-  where
-    go : (x : Step (List ℕ)) → Holds (λ p. p ≤ length s) (place-after s x)
-    go (refused k) = tt
-    go (got n r) = omega arith
+module _ (s : List ℕ) where
+  header-told : (x : Answer ℕ) (h : HeaderPlaces) → map-answer header-places x ≡ given h → x ≡ given (h .sections) × header-places (h .sections) ≡ h
+  unfolding map-answer
+  header-told (declined k) h e = let z : _≡_ {A = ℕ} 0 1 = cc in absurd (omega arith)
+  header-told (given at) h e = let q : header-places at ≡ h = cc in (rw (← q) refl, rw (← q) refl)
+
+  -- a header that is read
+  module _ (h : HeaderPlaces) (e : map-answer header-places (header-place s) ≡ given h) where
+    pub sections-begin : header-place s ≡ given (h .sections)
+    sections-begin = header-told (header-place s) h e .0
+
+    pub name-begins : h .name ≡ 30
+    name-begins = sym (ap (λ h. h .name) (header-told (header-place s) h e .1))
+
+    pub header-headed : Headed s h
+    header-headed = rw (header-told (header-place s) h e .1) at (headed s (h .sections) sections-begin)
+
+  -- and one that is refused
+  pub header-refused : (k : Refusal) → map-answer header-places (header-place s) ≡ declined k → header-place s ≡ declined k
+  unfolding map-answer
+  header-refused k e = go (header-place s) e
+    where
+      go : (x : Answer ℕ) → map-answer header-places x ≡ declined k → x ≡ declined k
+      go (declined j) q = let z : j ≡ k = cc in rw z refl
+      go (given at) q = let z : _≡_ {A = ℕ} 0 1 = cc in absurd (omega arith)
+
+  pub no-part : (k : Refusal) → map-answer header-places (header-place s) ≡ declined k → record { at = 0; len = 0 } ≡ file-part 30 (length (model-of s))
+  unfolding file-part
+  no-part k e = rw (no-model s k (header-refused k e)) refl
+
+  -- the model name stands where its part says
+  pub model-cuts : Cuts s (file-part 30 (length (model-of s))) (model-of s)
+  unfolding file-part name-in
+  model-cuts = go (header-place s) refl
+    where
+      go : (x : Answer ℕ) → header-place s ≡ x → Cuts s (file-part 30 (length (model-of s))) (model-of s)
+      go (declined k) q = rw (no-model s k q) (no-bytes s)
+      go (given at) q = rw (headed s at q .named) at (front-cuts (front-name (at - 30)) s 30)
 
 and-then-assoc : {A B C : Type 0} (x : Answer A) (f : A → Answer B) (g : B → Answer C)
     → and-then (and-then x f) g ≡ and-then x (λ a. and-then (f a) g)
@@ -129,40 +161,6 @@ back-starts o s at b e = rw e at (one (optional-span o 28 s at))
 
 -- ---- property frames
 
-frame-ends : (s : List ℕ) (at : ℕ) → next-frame s at ≡ at + 9 + u32 (drop (at + 5) s) * 21
-unfolding next-frame
-frame-ends s at = refl
-
--- what is known of frames that a walk went over: they lie in the file, and they take nine bytes each and 21 for each IK state
-pub record Passed (s : List ℕ) (n at total : ℕ) (w : Walk) : Type 0 where
-  pub reaches : Reaches s n at
-  pub size : w .next + total * 21 ≡ at + n * 9 + w .ik-states * 21
-  pub ends : at ≤ length s → w .next ≤ length s
-
-pub walk-passed : (s : List ℕ) (n at total : ℕ) (w : Walk) → walk s n at total ≡ given w → Passed s n at total w
-unfolding walk walk-on Reaches
-walk-passed s zero at total w e =
-    let p : at ≡ w .next = cc in
-    let q : total ≡ w .ik-states = cc in
-    record { reaches = tt; size = omega arith; ends = λ h. omega arith }
-walk-passed s (suc n) at total w e =
-    go (leb (at + 5) (length s)) (span (refuse file-ends-early) 21 s (at + 5)) (frame-span s at) (walk-passed s n) e
-  where
-    Rest : Type 0
-    Rest = (at total : ℕ) (w : Walk) → walk s n at total ≡ given w → Passed s n at total w
-
-    go : (b : Bool) (x : Answer Span) → Holds (Frame s at) x → Rest → walk-on b x (walk s n) total ≡ given w → Passed s (suc n) at total w
-    go true (declined k) f r q = let z : _≡_ {A = ℕ} 0 1 = cc in absurd (omega arith)
-    go true (given x) f r q =
-        let p : Passed s n (next-frame s at) (total + x .count) w = r (next-frame s at) (total + x .count) w (rw (f .next) at q) in
-        let e : next-frame s at ≡ at + 9 + x .count * 21 = rw (f .count) (frame-ends s at) in
-        record {
-          reaches = (omega (arith, f .next, f .ends), p .reaches);
-          size = omega (arith, p .size);
-          ends = λ h. p .ends (omega (arith, f .next, f .ends));
-        }
-    go false x f r q = let z : _≡_ {A = ℕ} 0 1 = cc in absurd (omega arith)
-
 -- a turn of the walk over n frames
 pub walk-turn : (s : List ℕ) (n i at total k : ℕ) → i < n → at + 9 ≤ length s → k ≡ u32 (drop (at + 5) s) → k * 21 ≤ length s - (at + 9)
     → walk s (n - (i + 1)) (at + 9 + k * 21) (total + k) ≡ walk s (n - i) at total
@@ -203,30 +201,3 @@ module _ (s : List ℕ) (size n i at : ℕ) where
       let e : n - i ≡ suc (n - (i + 1)) = omega arith in
       let p : at + suc (n - (i + 1)) * size ≤ length s = rw e at l in
       omega arith
-
--- ---- for callers
-
--- what a scan says lies in the file
-matched : (s model : List ℕ) (y : Step File) (z : Answer Scan) (x : Scan) → Matches s model y z → z ≡ given x → Inside s x
-matched s model (refused k) (declined j) x a e = let z : _≡_ {A = ℕ} 0 1 = cc in absurd (omega arith)
-matched s model (refused k) (given v) x a e = absurd a
-matched s model (got f r) (declined j) x a e = absurd a
-matched s model (got f r) (given v) x a e = let p : v ≡ x = cc in rw p at (a .1 .inside)
-
-pub inside-file : (m : Manner) (s : List ℕ) (x : Scan) → scan-file m s ≡ given x → Inside s x
-inside-file m s x e = matched s (model-of s) (read-file m s) (scan-file m s) x (file-agrees m s) e
-
--- the property frames of a scan lie in the file
-module _ (s : List ℕ) (x : Scan) (h : Inside s x) where
-  passed : Passed s (x .properties .count) (x .properties .place) 0 (record { next = h .next; ik-states = x .ik-states })
-  passed = walk-passed s (x .properties .count) (x .properties .place) 0 _ (h .walked)
-
-  pub inside-reaches : Reaches s (x .properties .count) (x .properties .place)
-  inside-reaches = passed .reaches
-
-  -- where they end
-  pub inside-next : h .next ≡ x .properties .place + x .properties .count * 9 + x .ik-states * 21
-  inside-next = omega (arith, passed .size)
-
-  pub inside-ends : x .properties .place + x .properties .count * 9 + x .ik-states * 21 ≤ length s
-  inside-ends = omega (arith, inside-next, passed .ends (h .properties .place))

@@ -3,8 +3,10 @@
 use vmd_base::HEADER_SIZE;
 use vmd_base::MAGIC_COMPARED;
 use vmd_base::MAGIC_SIZE;
+use vmd_base::MODEL_WIDTH;
 use vmd_base::VMD_MAGIC;
 use vmd_base::VmdManner;
+use vmd_base::VmdPart;
 use vmd_base::VmdRefusal;
 use vmd_base::VmdSection;
 use vmd_records::VmdKind;
@@ -20,14 +22,16 @@ ghost use mathlib.Core.List.{_++_};
 ghost use Prim.Native.Nat.{_+_, _*_, _-_, _≤_};
 ghost use lib.Dec.{leb};
 ghost use lib.ListN.{length, drop};
-ghost use Rattle.vmd_format.specs.Answer.{given};
-ghost use Rattle.vmd_format.specs.Places.{header-place, no-span, over-span, span, optional-span, walk, over-if, scan-sections, scan-file, next-frame, frame-places, Reaches};
+ghost use Rattle.vmd_format.specs.Answer.{given, map-answer};
+ghost use Rattle.vmd_format.specs.Fetch.{model-of};
+ghost use Rattle.vmd_format.specs.Places.{header-place, header-places, no-span, over-span, span, optional-span, walk, over-if, scan-sections, scan-file, next-frame, frame-places, Reaches};
 ghost use Rattle.vmd_format.specs.ScanLaws.{PartWithin, Inside};
 ghost use Rattle.vmd_base.specs.Meaning.{manner-of, part-is};
 ghost use Rattle.vmd_records.specs.Kinds.{size-of};
+ghost use Rattle.vmd_places.specs.Parts.{file-part};
 ghost use Rattle.vmd_scan.specs.Stages.{read-number, optional-number, counted-span, scan-front, scan-back, scan-parts, scan-end};
 ghost use Rattle.vmd_scan.specs.Frames.{no-frames, with-frame, with-records, with-properties, frames-of};
-ghost use Rattle.vmd_scan.specs.Meaning.{oversized-of, over-of, scan-is, place-answer, number-answer, optional-answer, span-answer, walk-answer, front-is, back-is, front-answer, back-answer, scan-answer};
+ghost use Rattle.vmd_scan.specs.Meaning.{oversized-of, over-of, scan-is, header-answer, number-answer, optional-answer, span-answer, walk-answer, front-is, back-is, front-answer, back-answer, scan-answer};
 
 // ---- sizes, in bytes
 
@@ -91,9 +95,16 @@ pub enum SectionAnswer {
     Found(VmdSection, ByteReader),
 }
 
+// What a header says of places: the field of the model name, and where the sections begin.
+pub struct VmdHeader {
+    pub name: usize,
+    pub width: usize,
+    pub sections: ByteReader,
+}
+
 pub enum HeaderAnswer {
     Refused(VmdRefusal),
-    Read(ByteReader),
+    Read(VmdHeader),
 }
 
 pub enum WalkAnswer {
@@ -288,9 +299,8 @@ impl ByteReader {
 
 // ---- the header
 
-// Where the sections begin.
 pub fn read_header(file: &[u8]) -> HeaderAnswer
-    ensures { λ r. ⌜ place-answer r ≡ header-place (now (file .entry)) ⌝ }
+    ensures { λ r. ⌜ header-answer r ≡ map-answer header-places (header-place (now (file .entry))) ⌝ }
 {
     if file.len() < MAGIC_SIZE {
         return HeaderAnswer::Refused(VmdRefusal::FileEndsEarly);
@@ -299,9 +309,30 @@ pub fn read_header(file: &[u8]) -> HeaderAnswer
         if file.len() < HEADER_SIZE {
             return HeaderAnswer::Refused(VmdRefusal::FileEndsEarly);
         }
-        return HeaderAnswer::Read(ByteReader { pos: HEADER_SIZE });
+        return HeaderAnswer::Read(VmdHeader {
+            name: MAGIC_SIZE,
+            width: MODEL_WIDTH,
+            sections: ByteReader { pos: HEADER_SIZE },
+        });
     }
     HeaderAnswer::Refused(VmdRefusal::MagicDiffers)
+}
+
+// Where the model name stands; nowhere where the header is refused.
+pub fn model_part(file: &[u8]) -> VmdPart
+    ensures { λ r. ⌜ r ≡ file-part 30 (length (model-of (now (file .entry)))) ⌝ }
+{
+    match read_header(file) {
+        HeaderAnswer::Refused(_) => VmdPart { at: 0, len: 0 },
+        HeaderAnswer::Read(header) => vmd_places::name_at(file, header.name, header.width),
+    }
+}
+
+// The model name; empty where the header is refused.
+pub fn model_name<'a>(file: &'a [u8]) -> &'a [u8]
+    ensures { λ r. ⌜ now r ≡ model-of (now (file .entry)) ⌝ }
+{
+    vmd_places::cut(file, model_part(file))
 }
 
 // ---- property frames
@@ -551,7 +582,7 @@ pub fn scan_file(file: &[u8], manner: VmdManner) -> ScanAnswer
 {
     match read_header(file) {
         HeaderAnswer::Refused(k) => ScanAnswer::Refused(k),
-        HeaderAnswer::Read(start) => scan_sections(file, start, manner),
+        HeaderAnswer::Read(header) => scan_sections(file, header.sections, manner),
     }
 }
 

@@ -2,7 +2,7 @@
 use mathlib.Core.Path.{ap, _∙_}
 use native.Mathlib.Omega.{arith}
 use borrow.Author.Needs.{needs}
-use Rattle.vmd_scan.proofs.Laws.{inside-reaches}
+use Rattle.vmd_format.specs.InsideLaws.{inside-reaches}
 use Rattle.vmd_scan.proofs.Frames.{frames-largest}
 use Rattle.vmd_reader.proofs.Laws.{opens, opens-not, fills, fills-not}
 use Rattle.vmd_reader.proofs.open_sections.Statement.{statement}

@@ -2,7 +2,7 @@
 use borrow.Author.Needs.{needs}
 use Rattle.vmd_scan.specs.Meaning.{scan-is}
 use Rattle.vmd_scan.specs.Frames.{frames-of}
-use Rattle.vmd_scan.proofs.Laws.{inside-reaches}
+use Rattle.vmd_format.specs.InsideLaws.{inside-reaches}
 use Rattle.vmd_scan.proofs.frames_of.Statement.{statement}
 use Rattle.vmd_scan.proofs.frames_of.Tie as tie
 

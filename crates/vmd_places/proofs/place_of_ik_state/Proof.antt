@@ -1,13 +1,13 @@
--- `vmd_reader::place_of_ik_state` meets its contract. Assumes nothing.
+-- `vmd_places::place_of_ik_state` meets its contract. Assumes nothing.
 use mathlib.Core.Path.{sym, ap, _∙_}
 use native.Mathlib.Omega.{arith}
 use borrow.Author.Needs.{needs}
 use Rattle.vmd_format.specs.Answer.{and-then}
 use Rattle.vmd_format.specs.Fetch.{ik-part}
-use Rattle.vmd_reader.specs.Meaning.{place-answer, ik-place}
-use Rattle.vmd_reader.proofs.Laws.{property-ends}
-use Rattle.vmd_reader.proofs.place_of_ik_state.Statement.{statement}
-use Rattle.vmd_reader.proofs.place_of_ik_state.Tie as tie
+use Rattle.vmd_places.specs.Meaning.{place-answer, ik-place}
+use Rattle.vmd_places.proofs.Places.{property-ends}
+use Rattle.vmd_places.proofs.place_of_ik_state.Statement.{statement}
+use Rattle.vmd_places.proofs.place_of_ik_state.Tie as tie
 
 add-read-u32-le : tie.Need-add-read-u32-le
 add-read-u32-le c =

@@ -1,10 +1,10 @@
--- `vmd_reader::place_of` meets its contract. Assumes nothing.
+-- `vmd_places::place_of` meets its contract. Assumes nothing.
 use mathlib.Core.Path.{sym}
 use native.Mathlib.Omega.{arith}
 use borrow.Author.Needs.{needs}
-use Rattle.vmd_reader.proofs.Laws.{place-past, place-outside, place-found, offset-fits}
-use Rattle.vmd_reader.proofs.place_of.Statement.{statement}
-use Rattle.vmd_reader.proofs.place_of.Tie as tie
+use Rattle.vmd_places.proofs.Places.{place-past, place-outside, place-found, offset-fits}
+use Rattle.vmd_places.proofs.place_of.Statement.{statement}
+use Rattle.vmd_places.proofs.place_of.Tie as tie
 
 returns : tie.Need-returns
 returns c = sym (place-past _ _ _ _ (c .if1 .taken))

@@ -1,10 +1,10 @@
--- `vmd_reader::place_of_property` meets its contract. Assumes nothing.
+-- `vmd_places::place_of_property` meets its contract. Assumes nothing.
 use mathlib.Core.Path.{refl, sym}
 use native.Mathlib.Omega.{arith}
 use borrow.Author.Needs.{needs}
-use Rattle.vmd_reader.proofs.Laws.{property-past, scratch-past, property-outside, property-found}
-use Rattle.vmd_reader.proofs.place_of_property.Statement.{statement}
-use Rattle.vmd_reader.proofs.place_of_property.Tie as tie
+use Rattle.vmd_places.proofs.Places.{property-past, scratch-past, property-outside, property-found}
+use Rattle.vmd_places.proofs.place_of_property.Statement.{statement}
+use Rattle.vmd_places.proofs.place_of_property.Tie as tie
 
 returns : tie.Need-returns
 returns c = sym (property-past _ _ _ _ (c .if1 .taken))
