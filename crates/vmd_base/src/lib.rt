@@ -71,3 +71,9 @@ pub struct VmdSection {
     pub count: u32,
     pub place: usize,
 }
+
+// A part of a file: where it begins, and how many bytes it has; 0 and 0 where there is none.
+pub struct VmdPart {
+    pub at: usize,
+    pub len: usize,
+}

@@ -8,10 +8,12 @@ use Rattle.vmd_format.specs.Refusal.{Refusal, number}
 use Rattle.vmd_format.specs.Answer.{Answer, declined, given, map-answer}
 use Rattle.vmd_format.specs.Layout.{Layout}
 use Rattle.vmd_format.specs.Opening.{Part, Scan}
-use Rattle.vmd_format.specs.Fetch.{fetch, or-empty, fetch-property, fetch-ik-state}
+use Rattle.vmd_format.specs.Fetch.{record-place, fetch, or-empty, fetch-property, fetch-ik-state}
 use Rattle.vmd_format.specs.Join.{joined-model}
-use Rattle.vmd_c.specs.PartsOfFile.{ik-name-scratch}
-use Rattle.vmd_c.specs.Meaning.{status, slot-after, part-words, Names, joined-words}
+use Rattle.vmd_base.specs.declared.VmdPart.{VmdPart}
+use Rattle.vmd_places.specs.Meaning.{ik-place}
+use Rattle.vmd_places.specs.Parts.{part-in}
+use Rattle.vmd_c.specs.Meaning.{status, slot-after, joined-words}
 
 -- ---- an opening made of counts and places serves the calls as the sections that these say
 
@@ -26,19 +28,18 @@ pub fetch-ik-at : (scratch : List ℕ) (i j : ℕ) (s : List ℕ) {x y : Scan} �
     → fetch-ik-state (x .properties) scratch i j s ≡ fetch-ik-state (y .properties) scratch i j s
 fetch-ik-at scratch i j s e = ap (λ x. fetch-ik-state (x .properties) scratch i j s) e
 
-pub bytes-at : {A : Type 0} (K : Layout A) (field : A → List ℕ) (pick : Scan → Part) (i : ℕ) (s : List ℕ) {x y : Scan} {l : List ℕ} → x ≡ y
-    → l ≡ or-empty (map-answer field (fetch K (pick x) i s)) → l ≡ or-empty (map-answer field (fetch K (pick y) i s))
-bytes-at K field pick i s e q = q ∙ ap (λ x. or-empty (map-answer field (fetch K (pick x) i s))) e
+-- the part that a call gave
+pub field-part-at : {A : Type 0} (K : Layout A) (size : ℕ) (field : A → List ℕ) (offset : ℕ) (pick : Scan → Part) (i : ℕ) (s : List ℕ) {x y : Scan} {p : VmdPart}
+    → x ≡ y → p ≡ part-in (record-place size (pick x) i s) offset (or-empty (map-answer field (fetch K (pick x) i s)))
+    → p ≡ part-in (record-place size (pick y) i s) offset (or-empty (map-answer field (fetch K (pick y) i s)))
+field-part-at K size field offset pick i s e q =
+    q ∙ ap (λ x. part-in (record-place size (pick x) i s) offset (or-empty (map-answer field (fetch K (pick x) i s)))) e
 
-pub ik-name-at : (scratch : List ℕ) (i j : ℕ) (s : List ℕ) {x y : Scan} {l : List ℕ} → x ≡ y
-    → l ≡ or-empty (map-answer (λ x. x .name) (fetch-ik-state (x .properties) scratch i j s))
-    → l ≡ or-empty (map-answer (λ x. x .name) (fetch-ik-state (y .properties) scratch i j s))
-ik-name-at scratch i j s e q = q ∙ ap (λ x. or-empty (map-answer (λ x. x .name) (fetch-ik-state (x .properties) scratch i j s))) e
-
--- where there is an IK name, its property frame has a place in the scratch
-pub ik-name-index : (p : Part) (scratch : List ℕ) (i j : ℕ) (s : List ℕ) {l : List ℕ}
-    → l ≡ or-empty (map-answer (λ x. x .name) (fetch-ik-state p scratch i j s)) → 0 < length l → i < length scratch
-ik-name-index p scratch i j s e h = ik-name-scratch p scratch i j s (rw e at h)
+pub ik-part-at : (scratch : List ℕ) (i j : ℕ) (s : List ℕ) {x y : Scan} {p : VmdPart}
+    → x ≡ y → p ≡ part-in (ik-place (x .properties) scratch i j s) 0 (or-empty (map-answer (λ x. x .name) (fetch-ik-state (x .properties) scratch i j s)))
+    → p ≡ part-in (ik-place (y .properties) scratch i j s) 0 (or-empty (map-answer (λ x. x .name) (fetch-ik-state (y .properties) scratch i j s)))
+ik-part-at scratch i j s e q =
+    q ∙ ap (λ x. part-in (ik-place (x .properties) scratch i j s) 0 (or-empty (map-answer (λ x. x .name) (fetch-ik-state (x .properties) scratch i j s)))) e
 
 -- ---- statuses and slots
 
@@ -103,34 +104,6 @@ module _ {A B : Type 0} (f : A → B) {x y : Answer A} {a : Answer B} (same : x 
   pub found : {b : B} → a ≡ given b → {C : Type 0} (h : A → C) (old : C) {l : C} → ((v : A) → b ≡ f v → l ≡ h v)
       → (0 ≡ status y) × (l ≡ slot-after old h y)
   found m h old s = let r = arrived m in (status-given (r .is), slot-filled h old r s)
-
--- ---- parts of a file: l is what the callee gave, x what the contract speaks of
-
-module _ (at : ℕ) {l x : List ℕ} (e : l ≡ x) where
-  pub part-none : length l ≡ 0 → 0 ∷ 0 ∷ [] ≡ part-words at x
-  unfolding part-words
-  part-none z = go x (rw e at z)
-    where
-      go : (x : List ℕ) → length x ≡ 0 → 0 ∷ 0 ∷ [] ≡ part-words at x
-      go [] z = refl
-      go (b ∷ x) z = absurd (omega arith)
-
-  pub part-some : 0 < length l → at ∷ length l ∷ [] ≡ part-words at x
-  unfolding part-words
-  part-some h = rw e (go x (rw e at h))
-    where
-      go : (x : List ℕ) → 0 < length x → at ∷ length x ∷ [] ≡ part-words at x
-      go [] h = absurd (omega arith)
-      go (b ∷ x) h = refl
-
-  -- the sums of its place do not pass the file's length
-  pub part-fits : (s : List ℕ) → Names s (part-words at x) x → 0 < length l → at + length l ≤ length s
-  unfolding part-words
-  part-fits s n h = rw e (go x n (rw e at h))
-    where
-      go : (x : List ℕ) → Names s (part-words at x) x → 0 < length x → at + length x ≤ length s
-      go [] n h = absurd (omega arith)
-      go (b ∷ x) n h = n .inside
 
 -- the model name of a join: j is the joined name that the callee gave, f the first file's
 module _ (m n : List ℕ) {j : List ℕ} (e : j ≡ joined-model m n) where

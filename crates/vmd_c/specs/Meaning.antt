@@ -11,6 +11,7 @@ use Rattle.vmd_format.specs.Answer.{Answer, declined, given}
 use Rattle.vmd_format.specs.Records.{Bone, Morph, Camera, Light, SelfShadow}
 use Rattle.vmd_format.specs.Opening.{Part, Scan, Opening}
 use Rattle.vmd_format.specs.Fetch.{PropertyHead}
+use Rattle.vmd_base.specs.declared.VmdPart.{VmdPart}
 
 -- what a call returns: 0, or the number of the refusal
 unfoldable pub status : {A : Type 0} → Answer A → ℕ
@@ -82,10 +83,9 @@ property-words p = p .frame ∷ flag-byte (p .visible) ∷ p .ik-count ∷ []
 
 -- ---- parts of a file
 
--- where bytes begin, and how many there are; 0, 0 where there are none
-unfoldable pub part-words : ℕ → List ℕ → List ℕ
-part-words at [] = 0 ∷ 0 ∷ []
-part-words at (b ∷ s) = at ∷ length (b ∷ s) ∷ []
+-- where it begins, and how many bytes it has
+abbrev pub part-words : VmdPart → List ℕ
+part-words p = p .at ∷ p .len ∷ []
 
 -- such a part w names these bytes of the file s
 pub record Names (s w bytes : List ℕ) : Type 0 where

@@ -1,5 +1,6 @@
 // The library for C, thin over the calls of vmd_reader, vmd_export and vmd_parts. include/vmd.h says how C calls it. Every
 // function states what it returns, and every slot and buffer at exit, by equations with definitions.
+use vmd_base::VmdPart;
 use vmd_base::VmdSection;
 use vmd_output::VmdWritten;
 use vmd_reader::VmdBoneAnswer;
@@ -12,11 +13,6 @@ use vmd_reader::VmdOpened;
 use vmd_reader::VmdOpening;
 use vmd_reader::VmdPropertyAnswer;
 use vmd_reader::VmdSelfShadowAnswer;
-use vmd_records::VmdParsedBoneFrame;
-use vmd_records::VmdParsedCameraFrame;
-use vmd_records::VmdParsedIkState;
-use vmd_records::VmdParsedMorphFrame;
-use vmd_records::VmdParsedPropertyFrame;
 use vmd_scan::VmdSections;
 ghost use mathlib.Core.Path.{_≡_};
 ghost use Prim.Native.Nat.{_+_, _*_};
@@ -27,8 +23,10 @@ ghost use Rattle.vmd_format.specs.Answer.{map-answer, fitted, left};
 ghost use Rattle.vmd_format.specs.Records.{bone, morph, camera, light, self-shadow};
 ghost use Rattle.vmd_format.specs.Read.{lenient};
 ghost use Rattle.vmd_format.specs.Opening.{open-file, scratch-after};
-ghost use Rattle.vmd_format.specs.Fetch.{fetch, or-empty, model-of, fetch-property, fetch-ik-state};
+ghost use Rattle.vmd_format.specs.Fetch.{record-place, fetch, or-empty, model-of, fetch-property, fetch-ik-state};
 ghost use Rattle.vmd_format.specs.Parts.{build};
+ghost use Rattle.vmd_places.specs.Meaning.{ik-place};
+ghost use Rattle.vmd_places.specs.Parts.{file-part, part-in};
 ghost use Rattle.vmd_reader.specs.Meaning.{opening-is};
 ghost use Rattle.vmd_output.specs.Meaning.{written-answer};
 ghost use Rattle.vmd_export.specs.Saved.{exported-answer, exported-output, joined-answer, joined-output, export-size, join-size};
@@ -334,12 +332,13 @@ pub extern "C" fn vmd_ik_state(
     }
 }
 
-// ---- names and interpolation bytes. Where there are bytes, the record is whole in the file, and no sum wraps.
+// ---- names and interpolation bytes
 
-// Where a record's interpolation bytes begin.
-const BONE_INTERPOLATION_OFFSET: usize = 47;
-
-const CAMERA_INTERPOLATION_OFFSET: usize = 32;
+fn part_words(part: VmdPart) -> [u64; 2]
+    ensures { λ r. ⌜ r ≡ part-words part ⌝ }
+{
+    [part.at as u64, part.len as u64]
+}
 
 #[no_mangle]
 pub extern "C" fn vmd_bone_name(
@@ -350,15 +349,9 @@ pub extern "C" fn vmd_bone_name(
     part: &mut [u64; 2],
 )
     ensures { λ _. ⌜ (let p = scan-at (now (counts .entry)) (now (places .entry)) .bones in
-        now (part .exit) ≡ part-words (p .place + i * 111) (or-empty (map-answer (λ x. x .name) (fetch bone p i (now (file .entry)))))) ⌝ }
+        now (part .exit) ≡ part-words (part-in (record-place 111 p i (now (file .entry))) 0 (or-empty (map-answer (λ x. x .name) (fetch bone p i (now (file .entry))))))) ⌝ }
 {
-    let n = vmd_reader::bone_name(file, opening_of(counts, places), i).len();
-    if n == 0 {
-        *part = [0, 0];
-        return;
-    }
-    let at = places[0] as usize + i * VmdParsedBoneFrame::SIZE;
-    *part = [at as u64, n as u64];
+    *part = part_words(vmd_reader::bone_name_part(file, opening_of(counts, places), i));
 }
 
 #[no_mangle]
@@ -370,15 +363,9 @@ pub extern "C" fn vmd_morph_name(
     part: &mut [u64; 2],
 )
     ensures { λ _. ⌜ (let p = scan-at (now (counts .entry)) (now (places .entry)) .morphs in
-        now (part .exit) ≡ part-words (p .place + i * 23) (or-empty (map-answer (λ x. x .name) (fetch morph p i (now (file .entry)))))) ⌝ }
+        now (part .exit) ≡ part-words (part-in (record-place 23 p i (now (file .entry))) 0 (or-empty (map-answer (λ x. x .name) (fetch morph p i (now (file .entry))))))) ⌝ }
 {
-    let n = vmd_reader::morph_name(file, opening_of(counts, places), i).len();
-    if n == 0 {
-        *part = [0, 0];
-        return;
-    }
-    let at = places[1] as usize + i * VmdParsedMorphFrame::SIZE;
-    *part = [at as u64, n as u64];
+    *part = part_words(vmd_reader::morph_name_part(file, opening_of(counts, places), i));
 }
 
 #[no_mangle]
@@ -392,27 +379,16 @@ pub extern "C" fn vmd_ik_name(
     part: &mut [u64; 2],
 )
     ensures { λ _. ⌜ (let p = scan-at (now (counts .entry)) (now (places .entry)) .properties in
-        now (part .exit) ≡ part-words (getD (now (scratch .entry)) i 0 + 9 + j * 21) (or-empty (map-answer (λ x. x .name) (fetch-ik-state p (now (scratch .entry)) i j (now (file .entry)))))) ⌝ }
+        now (part .exit) ≡ part-words (part-in (ik-place p (now (scratch .entry)) i j (now (file .entry))) 0 (or-empty (map-answer (λ x. x .name) (fetch-ik-state p (now (scratch .entry)) i j (now (file .entry))))))) ⌝ }
 {
-    let n = vmd_reader::ik_name(file, opening_of(counts, places), scratch, i, j).len();
-    if n == 0 {
-        *part = [0, 0];
-        return;
-    }
-    let at = scratch[i] as usize + VmdParsedPropertyFrame::SIZE + j * VmdParsedIkState::SIZE;
-    *part = [at as u64, n as u64];
+    *part = part_words(vmd_reader::ik_name_part(file, opening_of(counts, places), scratch, i, j));
 }
 
 #[no_mangle]
 pub extern "C" fn vmd_model_name(file: &[u8], part: &mut [u64; 2])
-    ensures { λ _. ⌜ now (part .exit) ≡ part-words 30 (model-of (now (file .entry))) ⌝ }
+    ensures { λ _. ⌜ now (part .exit) ≡ part-words (file-part 30 (length (model-of (now (file .entry))))) ⌝ }
 {
-    let n = vmd_reader::model_name(file).len();
-    if n == 0 {
-        *part = [0, 0];
-        return;
-    }
-    *part = [vmd_base::MAGIC_SIZE as u64, n as u64];
+    *part = part_words(vmd_reader::model_part(file));
 }
 
 #[no_mangle]
@@ -424,15 +400,9 @@ pub extern "C" fn vmd_bone_interpolation(
     part: &mut [u64; 2],
 )
     ensures { λ _. ⌜ (let p = scan-at (now (counts .entry)) (now (places .entry)) .bones in
-        now (part .exit) ≡ part-words (p .place + i * 111 + 47) (or-empty (map-answer (λ x. x .interpolation) (fetch bone p i (now (file .entry)))))) ⌝ }
+        now (part .exit) ≡ part-words (part-in (record-place 111 p i (now (file .entry))) 47 (or-empty (map-answer (λ x. x .interpolation) (fetch bone p i (now (file .entry))))))) ⌝ }
 {
-    let n = vmd_reader::bone_interpolation(file, opening_of(counts, places), i).len();
-    if n == 0 {
-        *part = [0, 0];
-        return;
-    }
-    let at = places[0] as usize + i * VmdParsedBoneFrame::SIZE + BONE_INTERPOLATION_OFFSET;
-    *part = [at as u64, n as u64];
+    *part = part_words(vmd_reader::bone_interpolation_part(file, opening_of(counts, places), i));
 }
 
 #[no_mangle]
@@ -444,15 +414,9 @@ pub extern "C" fn vmd_camera_interpolation(
     part: &mut [u64; 2],
 )
     ensures { λ _. ⌜ (let p = scan-at (now (counts .entry)) (now (places .entry)) .cameras in
-        now (part .exit) ≡ part-words (p .place + i * 61 + 32) (or-empty (map-answer (λ x. x .interpolation) (fetch camera p i (now (file .entry)))))) ⌝ }
+        now (part .exit) ≡ part-words (part-in (record-place 61 p i (now (file .entry))) 32 (or-empty (map-answer (λ x. x .interpolation) (fetch camera p i (now (file .entry))))))) ⌝ }
 {
-    let n = vmd_reader::camera_interpolation(file, opening_of(counts, places), i).len();
-    if n == 0 {
-        *part = [0, 0];
-        return;
-    }
-    let at = places[2] as usize + i * VmdParsedCameraFrame::SIZE + CAMERA_INTERPOLATION_OFFSET;
-    *part = [at as u64, n as u64];
+    *part = part_words(vmd_reader::camera_interpolation_part(file, opening_of(counts, places), i));
 }
 
 // ---- saving and joining

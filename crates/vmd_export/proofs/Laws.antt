@@ -18,7 +18,7 @@ use Rattle.vmd_format.specs.ScanLaws.{file-in, PartWithin, Inside}
 use Rattle.vmd_format.specs.Lengths.{export-length}
 use Rattle.vmd_format.specs.Join.{export-file, joined-model, join, fit-together, join-takes, join-files}
 use Rattle.vmd_format.specs.ExportLaws.{take-in, Scanned, scan-scanned, export-by-places, join-by-places, scan-counts, join-length, join-fits}
-use Rattle.vmd_scan.proofs.Laws.{inside-reaches, inside-ends}
+use Rattle.vmd_format.specs.InsideLaws.{inside-reaches, inside-ends}
 use Rattle.vmd_output.specs.Sections.{Frames, records-of, frames-of}
 use Rattle.vmd_bytes.specs.Written.{Wrote, Rest}
 use Rattle.vmd_bytes.proofs.Writes.{rest-as}

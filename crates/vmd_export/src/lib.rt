@@ -202,7 +202,7 @@ fn export(manner: VmdManner, out: &mut [u8], file: &[u8]) -> VmdWritten
         ScanAnswer::Refused(k) => VmdWritten::Refused(k),
         ScanAnswer::Scanned(a) => write_take(
             out,
-            vmd_reader::model_name(file),
+            vmd_scan::model_name(file),
             file,
             a,
             file,
@@ -215,9 +215,9 @@ fn export(manner: VmdManner, out: &mut [u8], file: &[u8]) -> VmdWritten
 pub fn joined_model<'a>(first: &'a [u8], second: &'a [u8]) -> &'a [u8]
     ensures { λ r. ⌜ now r ≡ joined-model (model-of (now (first .entry))) (model-of (now (second .entry))) ⌝ }
 {
-    let name = vmd_reader::model_name(first);
+    let name = vmd_scan::model_name(first);
     if name.len() == 0 {
-        return vmd_reader::model_name(second);
+        return vmd_scan::model_name(second);
     }
     name
 }

@@ -26,6 +26,7 @@ pub mod PlacesLaws
 pub mod WalkLaws
 pub mod ScanLaws
 pub mod OpeningLaws
+pub mod InsideLaws
 pub mod RefusalLaws
 pub mod FetchLaws
 pub mod Computed

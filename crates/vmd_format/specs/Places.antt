@@ -20,6 +20,16 @@ place-after s (got n r) = given (length s - length r)
 unfoldable pub header-place : List ℕ → Answer ℕ
 header-place s = place-after s (header s)
 
+-- where the field of the model name stands, how wide it is, and where the sections begin
+pub record HeaderPlaces : Type 0 where
+  pub name : ℕ
+  pub width : ℕ
+  pub sections : ℕ
+
+-- the name stands between the 30 bytes of the magic and the sections
+abbrev pub header-places : ℕ → HeaderPlaces
+header-places at = record { name = 30; width = at - 30; sections = at }
+
 -- a section: its records' number, their place and the place after them
 pub record Span : Type 0 where
   pub count : ℕ

@@ -11,13 +11,14 @@ use lib.Dec.{leb}
 use Rattle.vmd_format.specs.Bytes.{before-zero}
 use Rattle.vmd_format.specs.Layout.{Layout, number, byte, flag, inverted, name, raw, _⊗_, as-record}
 use Rattle.vmd_format.specs.Refusal.{Refusal, file-ends-early, magic-differs}
+use Rattle.vmd_format.specs.Refusal as refusal
 use Rattle.vmd_format.specs.Answer.{Answer, declined, given, and-then}
 use Rattle.vmd_format.specs.Records.{Property, bone, morph, camera, light, self-shadow}
 use Rattle.vmd_format.specs.Read.{Step, refused, got, Reader, bind, fixed, many, Section, refuse, BytesOver, ignored, turned-down, Manner}
 use Rattle.vmd_format.specs.Take.{property, File, magic, same, model-if, magic-if, header-if, header, sections, ended, read-file}
 use Rattle.vmd_format.specs.Opening.{ik-total, Part, Scan, part-of, scan-of}
 use Rattle.vmd_format.specs.Fetch.{model-in, model-of}
-use Rattle.vmd_format.specs.Places.{place-after, header-place, Span, part-in, span, optional-span, Walk, walk, over-if, scan-sections, scan-file, next-frame}
+use Rattle.vmd_format.specs.Places.{place-after, header-place, HeaderPlaces, header-places, Span, part-in, span, optional-span, Walk, walk, over-if, scan-sections, scan-file, next-frame}
 use Rattle.vmd_format.specs.PlacesLaws.{Holds, table-length, Within, span-within, optional-within, section-by, counted-by, optional-by, section-in, fixed-by, frames-in, Walked, WalkAgrees, walk-agrees}
 
 -- the file of these places
@@ -187,26 +188,56 @@ module _ (m : Manner) (s model : List ℕ) where
       rw (optional-by property (refuse file-ends-early) s (d .next) (wd .ends)) (last (optional-span (refuse file-ends-early) 9 s (d .next)) _ _ (optional-within (refuse file-ends-early) 9 s (d .next)) λ p i t w wp a e.
       rw (a .rest) (ended-agrees (m .over) _ _ (w .next) (a .ends) (refl, file-found b f c l d p i t w wb wf wc wl wd wp a e))))))))
 
--- a header is refused, or the sections begin at a place of the file
-data HeaderIs (s : List ℕ) : Step (List ℕ) → Type 0 where
-  halts : (k : Refusal) → HeaderIs s (refused k)
-  reads : (n : List ℕ) (at : ℕ) → at ≤ length s → HeaderIs s (got n (drop at s))
+-- The one fact of a header: it is refused with 1 or 2, or the sections begin at a place of the file, and the model name's field
+-- stands before them, after the magic.
+pub data HeaderIs (s : List ℕ) : Step (List ℕ) → Type 0 where
+  halts : (k : Refusal) → refusal.number k ≤ 2 → HeaderIs s (refused k)
+  reads : (at : ℕ) → 30 ≤ at → at ≤ length s → HeaderIs s (got (before-zero (take (at - 30) (drop 30 s))) (drop at s))
 
-header-is : (s : List ℕ) → HeaderIs s (header s)
+pub header-is : (s : List ℕ) → HeaderIs s (header s)
 unfolding header header-if magic-if model-if
 header-is s = one (leb 30 (length s))
   where
     three : (b : Bool) → leb 50 (length s) ≡ b → HeaderIs s (model-if b s)
-    three true e = reads (before-zero (take 20 (drop 30 s))) 50 (leb-true _ _ e)
-    three false e = halts file-ends-early
+    three true e = reads 50 (omega arith) (leb-true _ _ e)
+    three false e = halts file-ends-early (omega arith)
 
     two : (b : Bool) → HeaderIs s (magic-if b s)
     two true = three (leb 50 (length s)) refl
-    two false = halts magic-differs
+    two false = halts magic-differs (omega arith)
 
     one : (b : Bool) → HeaderIs s (header-if b s)
     one true = two (same (take 26 s) magic)
-    one false = halts file-ends-early
+    one false = halts file-ends-early (omega arith)
+
+-- where the header says that the name stands, it stands, and the sections begin in the file
+pub record Headed (s : List ℕ) (h : HeaderPlaces) : Type 0 where
+  pub named : before-zero (take (h .width) (drop (h .name) s)) ≡ model-of s
+  pub name-ends : h .name + h .width ≤ length s
+  pub starts : h .sections ≤ length s
+
+pub headed : (s : List ℕ) (at : ℕ) → header-place s ≡ given at → Headed s (header-places at)
+unfolding header-place place-after model-of model-in
+headed s at e =
+    let g = go (header s) (header-is s) e in
+    record { named = g .0; name-ends = g .1; starts = g .2 }
+  where
+    go : (x : Step (List ℕ)) → HeaderIs s x → place-after s x ≡ given at
+        → (before-zero (take (at - 30) (drop 30 s)) ≡ model-in x) × (30 + (at - 30) ≤ length s) × (at ≤ length s)
+    go x (halts k h) e = let z : _≡_ {A = ℕ} 0 1 = cc in absurd (omega arith)
+    go x (reads p g h) e =
+        let z : length s - length (drop p s) ≡ at = cc in
+        let q : p ≡ at = omega (arith, length-drop p s) in
+        (rw q refl, omega arith, omega arith)
+
+-- no header, no name
+pub no-model : (s : List ℕ) (k : Refusal) → header-place s ≡ declined k → model-of s ≡ []
+unfolding header-place place-after model-of model-in
+no-model s k e = go (header s) e
+  where
+    go : (x : Step (List ℕ)) → place-after s x ≡ declined k → model-in x ≡ []
+    go (refused j) e = refl
+    go (got n r) e = let z : _≡_ {A = ℕ} 0 1 = cc in absurd (omega arith)
 
 -- a file read by places is the file read
 pub file-agrees : (m : Manner) (s : List ℕ) → Matches s (model-of s) (read-file m s) (scan-file m s)
@@ -214,10 +245,10 @@ unfolding read-file scan-file header-place place-after bind and-then model-of mo
 file-agrees m s = go (header s) (header-is s)
   where
     go : (x : Step (List ℕ)) → HeaderIs s x → Matches s (model-in x) (bind x (sections m)) (and-then (place-after s x) (scan-sections m s))
-    go x (halts k) = refl
-    go x (reads n at h) =
+    go x (halts k h) = refl
+    go x (reads at g h) =
         let e : length s - length (drop at s) ≡ at = rw length-drop (omega arith) in
-        rw e (sections-agree m s n at h)
+        rw e (sections-agree m s _ at h)
 
 -- the cases of a header, for code
 module _ (s : List ℕ) where

@@ -9,15 +9,12 @@ use borrow.Author.Tests.{lt-ltb, le-ltb, ltb-true, ltb-false, le-leb, lt-leb}
 use lib.Dec.{ltb, leb, lit<}
 use lib.ListN.{length, getD, set, take, length-append}
 use lib.Seq.{take-all, length-take-le}
-use Rattle.vmd_format.specs.Refusal.{Refusal, scratch-too-short, number}
-use Rattle.vmd_format.specs.Answer.{Answer, declined, given, and-then, unless}
+use Rattle.vmd_format.specs.Refusal.{Refusal, number}
+use Rattle.vmd_format.specs.Answer.{declined, given}
 use Rattle.vmd_format.specs.Read.{lenient}
-use Rattle.vmd_format.specs.Opening.{Scan, Opening, open-file, scratch-after}
-use Rattle.vmd_format.specs.Places.{scan-file, scan-largest, open-scan}
-use Rattle.vmd_format.specs.OpeningLaws.{open-by-places}
+use Rattle.vmd_format.specs.Opening.{Opening, open-file, scratch-after}
 use Rattle.vmd_bytes.specs.Slices.{splice, part}
 use Rattle.vmd_bytes.proofs.Laws.{length-splice, splice-nil, splice-append, set-splice, part-snoc}
-use Rattle.vmd_scan.proofs.Laws.{inside-file, inside-ends}
 use Rattle.vmd_line.specs.Line.{tens-if, digits, decimal, spaced, row, too-long, refused-line, numbers, line-of, line-if, line, line-scratch-if, line-scratch}
 
 -- ---- decimal digits
@@ -175,22 +172,3 @@ module _ (file scratch : List ℕ) where
   pub scratch-short : length file ≤ 65536 → line-scratch file scratch ≡ scratch-after lenient file scratch
   unfolding line-scratch line-scratch-if
   scratch-short h = rw (le-leb (length file) 65536 h)
-
--- ---- an opening of the file
-
-pub opened-scan : (s : List ℕ) (places : ℕ) (o : Opening) → open-file lenient s places ≡ given o → scan-file lenient s ≡ given (o .scan)
-unfolding and-then open-scan unless
-opened-scan s places o e = go (scan-file lenient s) (sym (open-by-places lenient s places) ∙ e)
-  where
-    one : (x : Scan) (b : Bool) → unless b scratch-too-short (given (record { scan = x; largest-frame = scan-largest s x })) ≡ given o → given x ≡ given (o .scan)
-    one x true q = let z : record { scan = x; largest-frame = scan-largest s x } ≡ o = cc in ap (λ o. given (o .scan)) z
-    one x false q = let z : _≡_ {A = ℕ} 0 1 = cc in absurd (omega arith)
-
-    go : (y : Answer Scan) → and-then y (open-scan s places) ≡ given o → y ≡ given (o .scan)
-    go (declined k) q = let z : _≡_ {A = ℕ} 0 1 = cc in absurd (omega arith)
-    go (given x) q = one x (leb (x .properties .count) places) q
-
--- its IK states are no more than the file's bytes
-pub opened-few : (s : List ℕ) (places : ℕ) (o : Opening) → length s ≤ 65536 → open-file lenient s places ≡ given o → o .scan .ik-states ≤ 65536
-opened-few s places o h e =
-    omega (arith, inside-ends s (o .scan) (inside-file lenient s (o .scan) (opened-scan s places o e)))

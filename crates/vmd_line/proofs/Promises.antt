@@ -13,11 +13,11 @@ use Rattle.vmd_format.specs.Opening.{Opening, open-file}
 use Rattle.vmd_format.specs.Join.{export-file, file-length}
 use Rattle.vmd_format.specs.Places.{scan-file}
 use Rattle.vmd_format.specs.OpeningLaws.{ninth-enough}
+use Rattle.vmd_format.specs.InsideLaws.{opened-scan}
 use Rattle.vmd_format.specs.RefusalLaws.{Refuses, enough-refuses}
 use Rattle.vmd_format.specs.ExportLaws.{take-in, export-by-places, scan-scanned, scan-counts, scan-length}
 use Rattle.vmd_format.specs.Computed.{computed, start, u0}
 use Rattle.vmd_line.specs.Line.{tens-if, digits, decimal, spaced, row, too-long, refused-line, export-size, numbers, line-of, line-if, line}
-use Rattle.vmd_line.proofs.Laws.{opened-scan}
 
 -- ---- the export length
 
@@ -26,7 +26,7 @@ pub export-is-as-long : (s : List ℕ) (places : ℕ) (o : Opening) → open-fil
     → map-answer length (export-file lenient s) ≡ given (export-size (o .scan))
 unfolding map-answer export-size
 export-is-as-long s places o e =
-    let q : scan-file lenient s ≡ given (o .scan) = opened-scan s places o e in
+    let q : scan-file lenient s ≡ given (o .scan) = opened-scan lenient s places o e in
     rw (export-by-places lenient s, q) (ap given (scan-length (take-in s (o .scan)) (o .scan) (scan-counts s (o .scan) (scan-scanned lenient s (o .scan) q))))
 
 -- ---- scratch enough

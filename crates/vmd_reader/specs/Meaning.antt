@@ -1,9 +1,6 @@
 -- What the types of the reader mean in the terms of the format, by cases. Definitions only.
-use Prim.Native.Nat.{ℕ}
-use mathlib.Core.List.{List}
-use Rattle.vmd_format.specs.Answer.{Answer, declined, given, and-then}
-use Rattle.vmd_format.specs.Opening.{Part, Opening}
-use Rattle.vmd_format.specs.Fetch.{record-place, property-place, ik-part}
+use Rattle.vmd_format.specs.Answer.{Answer, declined, given}
+use Rattle.vmd_format.specs.Opening.{Opening}
 use Rattle.vmd_base.specs.Meaning.{refusal-of}
 use Rattle.vmd_scan.specs.Meaning.{scan-is}
 use Rattle.vmd_records.specs.declared.VmdParsedBoneFrame.{VmdParsedBoneFrame}
@@ -17,8 +14,6 @@ use Rattle.vmd_records.specs.declared.VmdParsedIkState.{VmdParsedIkState}
 use Rattle.vmd_reader.specs.declared.VmdOpening.{VmdOpening}
 use Rattle.vmd_reader.specs.declared.VmdOpened.{VmdOpened}
 use Rattle.vmd_reader.specs.declared.VmdOpened.the-variants as opened
-use Rattle.vmd_reader.specs.declared.VmdPlace.{VmdPlace}
-use Rattle.vmd_reader.specs.declared.VmdPlace.the-variants as place
 use Rattle.vmd_reader.specs.declared.VmdBoneAnswer.{VmdBoneAnswer}
 use Rattle.vmd_reader.specs.declared.VmdBoneAnswer.the-variants as bone
 use Rattle.vmd_reader.specs.declared.VmdMorphAnswer.{VmdMorphAnswer}
@@ -42,14 +37,6 @@ opening-is o = record { scan = scan-is (o .sections); largest-frame = o .«max_f
 abbrev pub opening-answer : VmdOpened → Answer Opening
 opening-answer (opened.Refused k) = declined (refusal-of k)
 opening-answer (opened.Opened o) = given (opening-is o)
-
-abbrev pub place-answer : VmdPlace → Answer ℕ
-place-answer (place.Refused k) = declined (refusal-of k)
-place-answer (place.At at) = given at
-
--- where IK state j of property frame i stands
-unfoldable pub ik-place : Part → List ℕ → ℕ → ℕ → List ℕ → Answer ℕ
-ik-place p scratch i j s = and-then (property-place p scratch i s) λ at. record-place 21 (ik-part s at) j s
 
 abbrev pub bone-answer : VmdBoneAnswer → Answer VmdParsedBoneFrame
 bone-answer (bone.Refused k) = declined (refusal-of k)

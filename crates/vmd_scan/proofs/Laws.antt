@@ -1,6 +1,6 @@
 -- Laws of scanning: its steps make the format's scan, turns of the loops over frames, and what callers know of a scan. Assumes nothing.
-use Prim.Native.Nat.{ℕ, suc, _+_, _*_, _-_, _≤_, _<_, max}
-use mathlib.Core.Path.{_≡_, refl, sym, _∙_}
+use Prim.Native.Nat.{ℕ, zero, suc, _+_, _*_, _-_, _≤_, _<_, max}
+use mathlib.Core.Path.{_≡_, refl, sym, ap, _∙_}
 use mathlib.Core.Bool.{Bool, true, false}
 use mathlib.Core.List.{List, [], _∷_, _++_, append-assoc}
 use native.Mathlib.Nat.{max-zero, mul-le-mul-left}
@@ -11,16 +11,17 @@ use lib.Dec.{leb}
 use lib.ListN.{length, take, drop, set, take-append-drop}
 use lib.Seq.{drop-drop, take-suc-set, drop-set-lt}
 use Rattle.vmd_format.specs.Bytes.{u32}
-use Rattle.vmd_format.specs.Refusal.{file-ends-early}
+use Rattle.vmd_format.specs.Refusal.{Refusal, file-ends-early}
 use Rattle.vmd_format.specs.Answer.{Answer, declined, given, and-then, map-answer}
 use Rattle.vmd_format.specs.Read.{Step, refused, got, Oversized, refuse, Manner}
 use Rattle.vmd_format.specs.Take.{File, header, read-file, sections}
 use Rattle.vmd_format.specs.Fetch.{model-of}
 use Rattle.vmd_format.specs.Opening.{Scan}
-use Rattle.vmd_format.specs.Places.{place-after, header-place, Span, part-in, no-span, records-span, count-span, span, optional-if, optional-span, walk, scan-sections, scan-file, largest-of, next-frame, largest-frame-of, frame-places, Reaches}
-use Rattle.vmd_format.specs.PlacesLaws.{Holds, Within, optional-within, walk-next}
-use Rattle.vmd_format.specs.ScanLaws.{Inside, Matches, file-agrees}
-use Rattle.vmd_format.specs.WalkLaws.{Passed, walk-passed}
+use Rattle.vmd_format.specs.Places.{header-place, HeaderPlaces, header-places, Span, part-in, no-span, records-span, count-span, span, optional-if, optional-span, Walk, walk-on, walk, scan-sections, scan-file, largest-of, next-frame, largest-frame-of, frame-places, Reaches}
+use Rattle.vmd_format.specs.PlacesLaws.{Holds, Within, optional-within, Frame, frame-span, walk-next}
+use Rattle.vmd_format.specs.ScanLaws.{Headed, headed, no-model}
+use Rattle.vmd_places.specs.Parts.{file-part, Cuts, name-in}
+use Rattle.vmd_places.proofs.Parts.{front-name, no-bytes, front-cuts}
 use Rattle.vmd_scan.specs.Stages.{Numbered, number-if, read-number, Optional, nothing, there, optional-number-if, optional-number, counted-if, counted-span, Back, scan-front, scan-back, scan-end}
 
 -- records of at most 111 bytes, as many as a count says, fit a size
@@ -78,14 +79,44 @@ module _ (o : Oversized) (size : ℕ) (s : List ℕ) (at : ℕ) where
 
 -- ---- the header, three sections, three more, and the end are the scan
 
--- the sections begin in the file
-pub header-starts : (s : List ℕ) (at : ℕ) → header-place s ≡ given at → at ≤ length s
-unfolding header-place place-after
-header-starts s at e = rw e at (go (header s))
-  where
-    go : (x : Step (List ℕ)) → Holds (λ p. p ≤ length s) (place-after s x)
-    go (refused k) = tt
-    go (got n r) = omega arith
+module _ (s : List ℕ) where
+  header-told : (x : Answer ℕ) (h : HeaderPlaces) → map-answer header-places x ≡ given h → x ≡ given (h .sections) × header-places (h .sections) ≡ h
+  unfolding map-answer
+  header-told (declined k) h e = let z : _≡_ {A = ℕ} 0 1 = cc in absurd (omega arith)
+  header-told (given at) h e = let q : header-places at ≡ h = cc in (rw (← q) refl, rw (← q) refl)
+
+  -- a header that is read
+  module _ (h : HeaderPlaces) (e : map-answer header-places (header-place s) ≡ given h) where
+    pub sections-begin : header-place s ≡ given (h .sections)
+    sections-begin = header-told (header-place s) h e .0
+
+    pub name-begins : h .name ≡ 30
+    name-begins = sym (ap (λ h. h .name) (header-told (header-place s) h e .1))
+
+    pub header-headed : Headed s h
+    header-headed = rw (header-told (header-place s) h e .1) at (headed s (h .sections) sections-begin)
+
+  -- and one that is refused
+  pub header-refused : (k : Refusal) → map-answer header-places (header-place s) ≡ declined k → header-place s ≡ declined k
+  unfolding map-answer
+  header-refused k e = go (header-place s) e
+    where
+      go : (x : Answer ℕ) → map-answer header-places x ≡ declined k → x ≡ declined k
+      go (declined j) q = let z : j ≡ k = cc in rw z refl
+      go (given at) q = let z : _≡_ {A = ℕ} 0 1 = cc in absurd (omega arith)
+
+  pub no-part : (k : Refusal) → map-answer header-places (header-place s) ≡ declined k → record { at = 0; len = 0 } ≡ file-part 30 (length (model-of s))
+  unfolding file-part
+  no-part k e = rw (no-model s k (header-refused k e)) refl
+
+  -- the model name stands where its part says
+  pub model-cuts : Cuts s (file-part 30 (length (model-of s))) (model-of s)
+  unfolding file-part name-in
+  model-cuts = go (header-place s) refl
+    where
+      go : (x : Answer ℕ) → header-place s ≡ x → Cuts s (file-part 30 (length (model-of s))) (model-of s)
+      go (declined k) q = rw (no-model s k q) (no-bytes s)
+      go (given at) q = rw (headed s at q .named) at (front-cuts (front-name (at - 30)) s 30)
 
 and-then-assoc : {A B C : Type 0} (x : Answer A) (f : A → Answer B) (g : B → Answer C)
     → and-then (and-then x f) g ≡ and-then x (λ a. and-then (f a) g)
@@ -128,9 +159,6 @@ back-starts o s at b e = rw e at (one (optional-span o 28 s at))
     one (declined k) = tt
     one (given l) = two (optional-span o 9 s (l .next)) l
 
-max-assoc : (a b c : ℕ) → max (max a b) c ≡ max a (max b c)
-max-assoc a b c = omega arith
-
 -- ---- property frames
 
 -- a turn of the walk over n frames
@@ -149,13 +177,6 @@ module _ (s : List ℕ) (n i at : ℕ) (h : i < n) where
   unfolding Reaches
   reaches-next r = rw left at r
 
-  pub largest-next : (x best top : ℕ) → x ≡ u32 (drop at s) → max best (largest-frame-of s (n - i) at) ≡ top
-      → max (max best x) (largest-frame-of s (n - (i + 1)) (next-frame s at)) ≡ top
-  unfolding largest-frame-of
-  largest-next x best top e q =
-      let p : max best (max (u32 (drop at s)) (largest-frame-of s (n - (i + 1)) (next-frame s at))) ≡ top = rw left at q in
-      rw (e, max-assoc) p
-
   pub places-next : (scratch all : List ℕ) → i < length scratch → take i scratch ++ (frame-places s (n - i) at ++ drop n scratch) ≡ all
       → take (i + 1) (set scratch i at) ++ (frame-places s (n - (i + 1)) (next-frame s at) ++ drop n (set scratch i at)) ≡ all
   unfolding frame-places
@@ -165,10 +186,6 @@ module _ (s : List ℕ) (n i at : ℕ) (h : i < n) where
       rw (t, drop-set-lt n scratch i at h, append-assoc) p
 
 -- all n frames have been passed
-pub largest-done : (s : List ℕ) (n i at best top : ℕ) → n ≤ i → max best (largest-frame-of s (n - i) at) ≡ top → best ≡ top
-unfolding largest-frame-of
-largest-done s n i at best top h q = let z : n - i ≡ 0 = omega arith in rw (z, max-zero) at q
-
 pub places-done : (s : List ℕ) (n i at : ℕ) (scratch all : List ℕ) → i ≡ n → take i scratch ++ (frame-places s (n - i) at ++ drop n scratch) ≡ all → scratch ≡ all
 unfolding frame-places
 places-done s n i at scratch all h q =
@@ -184,43 +201,3 @@ module _ (s : List ℕ) (size n i at : ℕ) where
       let e : n - i ≡ suc (n - (i + 1)) = omega arith in
       let p : at + suc (n - (i + 1)) * size ≤ length s = rw e at l in
       omega arith
-
-  module _ (offset : ℕ) where
-    pub record-next : i < n → (x best top : ℕ) → x ≡ u32 (drop (at + offset) s) → max best (largest-of offset size (n - i) (drop at s)) ≡ top
-        → max (max best x) (largest-of offset size (n - (i + 1)) (drop (at + size) s)) ≡ top
-    unfolding largest-of
-    record-next h x best top e q =
-        let l : n - i ≡ suc (n - (i + 1)) = omega arith in
-        let p : max best (max (u32 (drop offset (drop at s))) (largest-of offset size (n - (i + 1)) (drop size (drop at s)))) ≡ top = rw l at q in
-        rw (e, max-assoc, ← drop-drop offset at s, ← drop-drop size at s) p
-
-    pub records-done : n ≤ i → (best top : ℕ) → max best (largest-of offset size (n - i) (drop at s)) ≡ top → best ≡ top
-    unfolding largest-of
-    records-done h best top q = let z : n - i ≡ 0 = omega arith in rw (z, max-zero) at q
-
--- ---- for callers
-
--- what a scan says lies in the file
-matched : (s model : List ℕ) (y : Step File) (z : Answer Scan) (x : Scan) → Matches s model y z → z ≡ given x → Inside s x
-matched s model (refused k) (declined j) x a e = let z : _≡_ {A = ℕ} 0 1 = cc in absurd (omega arith)
-matched s model (refused k) (given v) x a e = absurd a
-matched s model (got f r) (declined j) x a e = absurd a
-matched s model (got f r) (given v) x a e = let p : v ≡ x = cc in rw p at (a .1 .inside)
-
-pub inside-file : (m : Manner) (s : List ℕ) (x : Scan) → scan-file m s ≡ given x → Inside s x
-inside-file m s x e = matched s (model-of s) (read-file m s) (scan-file m s) x (file-agrees m s) e
-
--- the property frames of a scan lie in the file
-module _ (s : List ℕ) (x : Scan) (h : Inside s x) where
-  passed : Passed s (x .properties .count) (x .properties .place) 0 (record { next = h .next; ik-states = x .ik-states })
-  passed = walk-passed s (x .properties .count) (x .properties .place) 0 _ (h .walked)
-
-  pub inside-reaches : Reaches s (x .properties .count) (x .properties .place)
-  inside-reaches = passed .reaches
-
-  -- where they end
-  pub inside-next : h .next ≡ x .properties .place + x .properties .count * 9 + x .ik-states * 21
-  inside-next = omega (arith, passed .size)
-
-  pub inside-ends : x .properties .place + x .properties .count * 9 + x .ik-states * 21 ≤ length s
-  inside-ends = omega (arith, inside-next, passed .ends (h .properties .place))

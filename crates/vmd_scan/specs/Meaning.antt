@@ -4,7 +4,7 @@ use Rattle.vmd_base.specs.Meaning.{refusal-of, part-is}
 use Rattle.vmd_format.specs.Answer.{Answer, declined, given}
 use Rattle.vmd_format.specs.Read as format
 use Rattle.vmd_format.specs.Opening.{Scan}
-use Rattle.vmd_format.specs.Places.{Span, Walk}
+use Rattle.vmd_format.specs.Places.{HeaderPlaces, Span, Walk}
 use Rattle.vmd_scan.specs.Stages.{Numbered, Optional, nothing, there, Front, Back}
 use Rattle.vmd_scan.specs.declared.VmdSections.{VmdSections}
 use Rattle.vmd_scan.specs.declared.Oversized.{Oversized}
@@ -66,9 +66,9 @@ abbrev pub span-answer : SectionAnswer → Answer Span
 span-answer (section.Refused k) = declined (refusal-of k)
 span-answer (section.Found x r) = given (record { count = x .count; place = x .place; next = r .pos })
 
-abbrev pub place-answer : HeaderAnswer → Answer ℕ
-place-answer (header.Refused k) = declined (refusal-of k)
-place-answer (header.Read r) = given (r .pos)
+abbrev pub header-answer : HeaderAnswer → Answer HeaderPlaces
+header-answer (header.Refused k) = declined (refusal-of k)
+header-answer (header.Read h) = given (record { name = h .name; width = h .width; sections = h .sections .pos })
 
 abbrev pub walk-answer : WalkAnswer → Answer Walk
 walk-answer (walk.Refused k) = declined (refusal-of k)

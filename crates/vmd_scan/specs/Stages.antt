@@ -1,6 +1,6 @@
 -- The steps in which a file is scanned: a number, a section's records, three sections, three more, and the end. proofs/Laws
 -- shows that together they are the format's scan. Definitions only.
-use Prim.Native.Nat.{ℕ, _+_, _*_, _-_, max}
+use Prim.Native.Nat.{ℕ, _+_, _*_, _-_}
 use mathlib.Core.Bool.{Bool, true, false}
 use mathlib.Core.List.{List}
 use lib.ListN.{length, drop}
@@ -10,7 +10,7 @@ use Rattle.vmd_format.specs.Refusal.{file-ends-early}
 use Rattle.vmd_format.specs.Answer.{Answer, declined, given, and-then, map-answer}
 use Rattle.vmd_format.specs.Read.{Oversized, refuse, BytesOver}
 use Rattle.vmd_format.specs.Opening.{Part, Scan}
-use Rattle.vmd_format.specs.Places.{Span, part-in, over-span, optional-span, span, walk, over-if, part-largest, largest-frame-of}
+use Rattle.vmd_format.specs.Places.{Span, part-in, over-span, optional-span, span, walk, over-if}
 
 -- ---- numbers
 
@@ -91,10 +91,3 @@ unfoldable pub scan-end : BytesOver → List ℕ → Front → Back → Answer S
 scan-end v s f b =
     and-then (walk s (b .properties .count) (b .properties .place) 0) λ w.
     over-if (leb (length s) (w .next)) v (scan-parts f b (w .ik-states))
-
--- the largest frame of the last three sections
-unfoldable pub back-largest : List ℕ → Scan → ℕ
-back-largest s x =
-    max (part-largest 0 28 s (x .lights))
-    (max (part-largest 0 9 s (x .self-shadows))
-    (largest-frame-of s (x .properties .count) (x .properties .place)))

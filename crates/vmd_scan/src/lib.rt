@@ -3,10 +3,13 @@
 use vmd_base::HEADER_SIZE;
 use vmd_base::MAGIC_COMPARED;
 use vmd_base::MAGIC_SIZE;
+use vmd_base::MODEL_WIDTH;
 use vmd_base::VMD_MAGIC;
 use vmd_base::VmdManner;
+use vmd_base::VmdPart;
 use vmd_base::VmdRefusal;
 use vmd_base::VmdSection;
+use vmd_records::VmdKind;
 use vmd_records::VmdParsedBoneFrame;
 use vmd_records::VmdParsedCameraFrame;
 use vmd_records::VmdParsedIkState;
@@ -19,12 +22,16 @@ ghost use mathlib.Core.List.{_++_};
 ghost use Prim.Native.Nat.{_+_, _*_, _-_, _≤_};
 ghost use lib.Dec.{leb};
 ghost use lib.ListN.{length, drop};
-ghost use Rattle.vmd_format.specs.Answer.{given};
-ghost use Rattle.vmd_format.specs.Places.{header-place, no-span, over-span, span, optional-span, walk, over-if, scan-sections, scan-file, part-largest, next-frame, largest-frame-of, frame-places, scan-largest, Reaches};
-ghost use Rattle.vmd_format.specs.ScanLaws.{Inside};
+ghost use Rattle.vmd_format.specs.Answer.{given, map-answer};
+ghost use Rattle.vmd_format.specs.Fetch.{model-of};
+ghost use Rattle.vmd_format.specs.Places.{header-place, header-places, no-span, over-span, span, optional-span, walk, over-if, scan-sections, scan-file, next-frame, frame-places, Reaches};
+ghost use Rattle.vmd_format.specs.ScanLaws.{PartWithin, Inside};
 ghost use Rattle.vmd_base.specs.Meaning.{manner-of, part-is};
-ghost use Rattle.vmd_scan.specs.Stages.{read-number, optional-number, counted-span, scan-front, scan-back, scan-parts, scan-end, back-largest};
-ghost use Rattle.vmd_scan.specs.Meaning.{oversized-of, over-of, scan-is, place-answer, number-answer, optional-answer, span-answer, walk-answer, front-is, back-is, front-answer, back-answer, scan-answer};
+ghost use Rattle.vmd_records.specs.Kinds.{size-of};
+ghost use Rattle.vmd_places.specs.Parts.{file-part};
+ghost use Rattle.vmd_scan.specs.Stages.{read-number, optional-number, counted-span, scan-front, scan-back, scan-parts, scan-end};
+ghost use Rattle.vmd_scan.specs.Frames.{no-frames, with-frame, with-records, with-properties, frames-of};
+ghost use Rattle.vmd_scan.specs.Meaning.{oversized-of, over-of, scan-is, header-answer, number-answer, optional-answer, span-answer, walk-answer, front-is, back-is, front-answer, back-answer, scan-answer};
 
 // ---- sizes, in bytes
 
@@ -88,9 +95,16 @@ pub enum SectionAnswer {
     Found(VmdSection, ByteReader),
 }
 
+// What a header says of places: the field of the model name, and where the sections begin.
+pub struct VmdHeader {
+    pub name: usize,
+    pub width: usize,
+    pub sections: ByteReader,
+}
+
 pub enum HeaderAnswer {
     Refused(VmdRefusal),
-    Read(ByteReader),
+    Read(VmdHeader),
 }
 
 pub enum WalkAnswer {
@@ -285,9 +299,8 @@ impl ByteReader {
 
 // ---- the header
 
-// Where the sections begin.
 pub fn read_header(file: &[u8]) -> HeaderAnswer
-    ensures { λ r. ⌜ place-answer r ≡ header-place (now (file .entry)) ⌝ }
+    ensures { λ r. ⌜ header-answer r ≡ map-answer header-places (header-place (now (file .entry))) ⌝ }
 {
     if file.len() < MAGIC_SIZE {
         return HeaderAnswer::Refused(VmdRefusal::FileEndsEarly);
@@ -296,9 +309,30 @@ pub fn read_header(file: &[u8]) -> HeaderAnswer
         if file.len() < HEADER_SIZE {
             return HeaderAnswer::Refused(VmdRefusal::FileEndsEarly);
         }
-        return HeaderAnswer::Read(ByteReader { pos: HEADER_SIZE });
+        return HeaderAnswer::Read(VmdHeader {
+            name: MAGIC_SIZE,
+            width: MODEL_WIDTH,
+            sections: ByteReader { pos: HEADER_SIZE },
+        });
     }
     HeaderAnswer::Refused(VmdRefusal::MagicDiffers)
+}
+
+// Where the model name stands; nowhere where the header is refused.
+pub fn model_part(file: &[u8]) -> VmdPart
+    ensures { λ r. ⌜ r ≡ file-part 30 (length (model-of (now (file .entry)))) ⌝ }
+{
+    match read_header(file) {
+        HeaderAnswer::Refused(_) => VmdPart { at: 0, len: 0 },
+        HeaderAnswer::Read(header) => vmd_places::name_at(file, header.name, header.width),
+    }
+}
+
+// The model name; empty where the header is refused.
+pub fn model_name<'a>(file: &'a [u8]) -> &'a [u8]
+    ensures { λ r. ⌜ now r ≡ model-of (now (file .entry)) ⌝ }
+{
+    vmd_places::cut(file, model_part(file))
 }
 
 // ---- property frames
@@ -353,39 +387,65 @@ pub fn write_frame_places(file: &[u8], place: usize, n: usize, scratch: &mut [u6
     }
 }
 
-// The largest frame of n property frames, 0 with none.
-pub fn largest_property_frame(file: &[u8], place: usize, n: usize) -> u32
-    requires { ⌜ Reaches (now file) n place ⌝ }
-    ensures { λ r. ⌜ r ≡ largest-frame-of (now (file .entry)) n place ⌝ }
-{
-    let mut largest: u32 = 0;
-    let mut at = place;
-    let mut i = 0;
-    while i < n {
-        largest = vmd_bytes::larger(largest, vmd_bytes::read_u32_le(file, at));
-        at = next_property_frame(file, at);
-        i += 1;
-    }
-    largest
+// ---- frames
+
+// What a pass over a file's frames gathers, handed on from record to record and from section to section. A further figure is
+// a field more.
+pub struct VmdFrames {
+    pub largest: u32,
 }
 
-// ---- the largest frame
+impl VmdFrames {
+    // Before any frame.
+    fn none() -> VmdFrames
+        ensures { λ r. ⌜ r ≡ no-frames ⌝ }
+    {
+        VmdFrames { largest: 0 }
+    }
 
-// The largest frame of a section's records, 0 with none: a number `offset` bytes into each.
-pub fn largest_frame(file: &[u8], section: VmdSection, record_size: usize, offset: usize) -> u32
-    requires { ⌜ (section .place + section .count * record_size ≤ length (now file)) × (offset + 4 ≤ record_size) ⌝ }
-    ensures { λ r. ⌜ r ≡ part-largest offset record_size (now (file .entry)) (part-is section) ⌝ }
+    fn with_frame(self, frame: u32) -> VmdFrames
+        ensures { λ r. ⌜ r ≡ with-frame self frame ⌝ }
+    {
+        VmdFrames {
+            largest: vmd_bytes::larger(self.largest, frame),
+        }
+    }
+}
+
+// The frames of a section's records, after others.
+fn with_records(file: &[u8], kind: VmdKind, section: VmdSection, before: VmdFrames) -> VmdFrames
+    requires { ⌜ PartWithin (size-of kind) (now file) (part-is section) ⌝ }
+    ensures { λ r. ⌜ r ≡ with-records kind (now (file .entry)) (part-is section) before ⌝ }
 {
+    let size = kind.size();
+    let offset = kind.frame_offset();
     let n = section.count as usize;
-    let mut largest: u32 = 0;
+    let mut frames = before;
     let mut at = section.place;
     let mut i = 0;
     while i < n {
-        largest = vmd_bytes::larger(largest, vmd_bytes::read_u32_le(file, at + offset));
-        at += record_size;
+        frames = frames.with_frame(vmd_bytes::read_u32_le(file, at + offset));
+        at += size;
         i += 1;
     }
-    largest
+    frames
+}
+
+// The property frames', after others.
+fn with_properties(file: &[u8], section: VmdSection, before: VmdFrames) -> VmdFrames
+    requires { ⌜ Reaches (now file) (section .count) (section .place) ⌝ }
+    ensures { λ r. ⌜ r ≡ with-properties (now (file .entry)) (part-is section) before ⌝ }
+{
+    let n = section.count as usize;
+    let mut frames = before;
+    let mut at = section.place;
+    let mut i = 0;
+    while i < n {
+        frames = frames.with_frame(vmd_bytes::read_u32_le(file, at));
+        at = next_property_frame(file, at);
+        i += 1;
+    }
+    frames
 }
 
 // ---- the whole file
@@ -522,43 +582,19 @@ pub fn scan_file(file: &[u8], manner: VmdManner) -> ScanAnswer
 {
     match read_header(file) {
         HeaderAnswer::Refused(k) => ScanAnswer::Refused(k),
-        HeaderAnswer::Read(start) => scan_sections(file, start, manner),
+        HeaderAnswer::Read(header) => scan_sections(file, header.sections, manner),
     }
 }
 
-// The largest frame of lights, self-shadows and properties.
-fn max_back_frame(file: &[u8], sections: VmdSections) -> u32
+// The frames of a scanned file, in one pass over its sections.
+pub fn frames_of(file: &[u8], sections: VmdSections) -> VmdFrames
     requires { ⌜ Inside (now file) (scan-is sections) ⌝ }
-    ensures { λ r. ⌜ r ≡ back-largest (now (file .entry)) (scan-is sections) ⌝ }
+    ensures { λ r. ⌜ r ≡ frames-of (now (file .entry)) (scan-is sections) ⌝ }
 {
-    let lights = largest_frame(file, sections.lights, LIGHT_SIZE, 0);
-    let self_shadows = largest_frame(file, sections.self_shadows, SELF_SHADOW_SIZE, 0);
-    let section = sections.properties;
-    let properties = largest_property_frame(file, section.place, section.count as usize);
-    vmd_bytes::larger(lights, vmd_bytes::larger(self_shadows, properties))
-}
-
-// The largest frame of a scanned file.
-pub fn max_frame(file: &[u8], sections: VmdSections) -> u32
-    requires { ⌜ Inside (now file) (scan-is sections) ⌝ }
-    ensures { λ r. ⌜ r ≡ scan-largest (now (file .entry)) (scan-is sections) ⌝ }
-{
-    let bones = largest_frame(
-        file,
-        sections.bones,
-        BONE_SIZE,
-        VmdParsedBoneFrame::FRAME_OFFSET,
-    );
-    let morphs = largest_frame(
-        file,
-        sections.morphs,
-        MORPH_SIZE,
-        VmdParsedMorphFrame::FRAME_OFFSET,
-    );
-    let cameras = largest_frame(file, sections.cameras, CAMERA_SIZE, 0);
-    let back = max_back_frame(file, sections);
-    vmd_bytes::larger(
-        bones,
-        vmd_bytes::larger(morphs, vmd_bytes::larger(cameras, back)),
-    )
+    let bones = with_records(file, VmdKind::Bone, sections.bones, VmdFrames::none());
+    let morphs = with_records(file, VmdKind::Morph, sections.morphs, bones);
+    let cameras = with_records(file, VmdKind::Camera, sections.cameras, morphs);
+    let lights = with_records(file, VmdKind::Light, sections.lights, cameras);
+    let self_shadows = with_records(file, VmdKind::SelfShadow, sections.self_shadows, lights);
+    with_properties(file, sections.properties, self_shadows)
 }

@@ -3,10 +3,11 @@ use mathlib.Core.Path.{sym, ap, _∙_}
 use borrow.Author.Needs.{needs}
 use lib.ListN.{length}
 use Rattle.vmd_format.specs.Answer.{given}
+use Rattle.vmd_format.specs.InsideLaws.{opened-few}
 use Rattle.vmd_reader.specs.Meaning.{opening-answer}
 use Rattle.vmd_bytes.specs.Slices.{splice}
 use Rattle.vmd_line.specs.Line.{too-long, numbers, row, refused-line}
-use Rattle.vmd_line.proofs.Laws.{line-long, line-refused, line-opened, scratch-long, scratch-short, opened-few}
+use Rattle.vmd_line.proofs.Laws.{line-long, line-refused, line-opened, scratch-long, scratch-short}
 use Rattle.vmd_line.proofs.list_line.Statement.{statement}
 use Rattle.vmd_line.proofs.list_line.Tie as tie
 
@@ -21,7 +22,7 @@ numbers-of-requires : tie.Need-numbers-of-requires
 numbers-of-requires c κs =
     let o = c .before in
     let p = o .before .before .before .before in
-    opened-few _ _ _ (p .before .before .if1 .left) (sym (p .parse-vmd-animation .ensures .0) ∙ ap opening-answer (o .opening .given .1))
+    opened-few _ _ _ _ (p .before .before .if1 .left) (sym (p .parse-vmd-animation .ensures .0) ∙ ap opening-answer (o .opening .given .1))
 
 write-row-requires : tie.Need-write-row-requires
 unfolding numbers

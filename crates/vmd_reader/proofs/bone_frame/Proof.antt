@@ -1,37 +1,24 @@
 -- `vmd_reader::bone_frame` meets its contract. Assumes nothing.
 use mathlib.Core.Path.{sym, ap, _∙_}
-use native.Mathlib.Omega.{arith}
 use borrow.Author.Needs.{needs}
 use Rattle.vmd_format.specs.Records.{bone}
 use Rattle.vmd_records.specs.Fields.{bone-fields}
-use Rattle.vmd_reader.specs.Meaning.{place-answer}
-use Rattle.vmd_reader.proofs.Laws.{place-ends, map-declined, fetch-refused, fetched, bone-size}
+use Rattle.vmd_places.specs.Meaning.{place-answer}
+use Rattle.vmd_places.proofs.Fields.{bone-size}
+use Rattle.vmd_reader.proofs.Laws.{found, refused, record-read}
 use Rattle.vmd_reader.proofs.bone_frame.Statement.{statement}
 use Rattle.vmd_reader.proofs.bone_frame.Tie as tie
-
-sub-from-bytes : tie.Need-sub-from-bytes
-sub-from-bytes c =
-    let t = c .before in
-    omega (arith, place-ends 111 _ _ _ _ (sym (t .before .before .place-of .ensures) ∙ ap place-answer (t .at .given .1)))
-
-part-from-bytes-start : tie.Need-part-from-bytes-start
-part-from-bytes-start c =
-    let t = c .before in
-    omega (arith, place-ends 111 _ _ _ _ (sym (t .before .before .place-of .ensures) ∙ ap place-answer (t .at .given .1)))
 
 returns : tie.Need-returns
 returns c =
     let t = c .before in
-    sym (map-declined bone-fields _ _
-    (fetch-refused bone 111 bone-size _ _ _ _ (sym (t .before .before .place-of .ensures) ∙ ap place-answer (t .k .given .1))))
+    refused (record-read bone 111 bone-size _ _ _) bone-fields _ (sym (t .before .before .place-of .ensures) ∙ ap place-answer (t .k .given .1))
 
 returns-2 : tie.Need-returns-2
 returns-2 c =
-    let t = c .before .before .before in
-    fetched bone bone-fields 111 bone-size _ _ _ _ _ (sym (t .before .before .place-of .ensures) ∙ ap place-answer (t .at .given .1)) (c .from-bytes .ensures)
+    let b = c .before in
+    let t = b .before .before in
+    found (record-read bone 111 bone-size _ _ _) bone-fields _ _ _ (sym (t .before .before .place-of .ensures) ∙ ap place-answer (t .at .given .1)) (b .bytes-from .ensures) (c .from-bytes .ensures)
 
 pub bone-frame-spec : {M : Type 1} → statement M
-bone-frame-spec =
-    tie.close
-    (tie.spec (λ c κs. search needs) (λ c. search needs) (λ c. search needs) sub-from-bytes part-from-bytes-start (λ c. search needs) (λ c κs. search needs)
-    returns returns-2)
+bone-frame-spec = tie.close (tie.spec (λ c κs. search needs) (λ c. search needs) (λ c. search needs) (λ c κs. search needs) (λ c κs. search needs) returns returns-2)

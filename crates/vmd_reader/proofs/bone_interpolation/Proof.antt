@@ -1,42 +1,15 @@
 -- `vmd_reader::bone_interpolation` meets its contract. Assumes nothing.
-use mathlib.Core.Path.{refl, sym, ap, _∙_}
-use native.Mathlib.Omega.{arith}
 use borrow.Author.Needs.{needs}
-use Rattle.vmd_format.specs.Records.{bone}
-use Rattle.vmd_reader.specs.Meaning.{place-answer}
-use Rattle.vmd_reader.proofs.Laws.{place-ends, map-declined, fetch-refused, bone-size, bone-interpolation-at, empty-part, bytes-fetched}
+use Rattle.vmd_places.proofs.Parts.{cut-inside, cut-named}
+use Rattle.vmd_places.proofs.Fields.{bone-interpolation, field-cuts}
 use Rattle.vmd_reader.proofs.bone_interpolation.Statement.{statement}
 use Rattle.vmd_reader.proofs.bone_interpolation.Tie as tie
 
-add-result : tie.Need-add-result
-add-result c =
-    let t = c .before in
-    omega (arith, place-ends 111 _ _ _ _ (sym (t .before .before .place-of .ensures) ∙ ap place-answer (t .at .given .1)))
-
-add-result-2 : tie.Need-add-result-2
-add-result-2 c =
-    let t = c .before in
-    omega (arith, place-ends 111 _ _ _ _ (sym (t .before .before .place-of .ensures) ∙ ap place-answer (t .at .given .1)))
-
-part-result-end : tie.Need-part-result-end
-part-result-end c =
-    let t = c .before in
-    omega (arith, place-ends 111 _ _ _ _ (sym (t .before .before .place-of .ensures) ∙ ap place-answer (t .at .given .1)))
+cut-requires : tie.Need-cut-requires
+cut-requires c κs = cut-inside (c .bone-interpolation-part .ensures) (field-cuts bone-interpolation _ _ _)
 
 returns : tie.Need-returns
-returns c =
-    let t = c .before in
-    empty-part _ _
-    (map-declined (λ x. x .interpolation) _ _
-    (fetch-refused bone 111 bone-size _ _ _ _ (sym (t .before .before .place-of .ensures) ∙ ap place-answer (t .enum-told .given .1))))
-
-returns-2 : tie.Need-returns-2
-returns-2 c =
-    let t = c .before .before in
-    bytes-fetched bone 111 bone-size (λ x. x .interpolation) 47 64 111 refl bone-interpolation-at _ _ _ _ (sym (t .before .before .place-of .ensures) ∙ ap place-answer (t .at .given .1))
+returns c = cut-named (c .before .bone-interpolation-part .ensures) (field-cuts bone-interpolation _ _ _) _ (c .cut .ensures)
 
 pub bone-interpolation-spec : {M : Type 1} → statement M
-bone-interpolation-spec =
-    tie.close
-    (tie.spec (λ c κs. search needs) (λ c. search needs) (λ c. search needs) (λ c. search needs) add-result add-result-2 (λ c. search needs) (λ c. search needs)
-    part-result-end returns returns-2)
+bone-interpolation-spec = tie.close (tie.spec (λ c κs. search needs) cut-requires returns)

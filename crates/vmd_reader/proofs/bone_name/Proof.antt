@@ -1,36 +1,15 @@
 -- `vmd_reader::bone_name` meets its contract. Assumes nothing.
-use mathlib.Core.Path.{sym, ap, _∙_}
-use native.Mathlib.Omega.{arith}
 use borrow.Author.Needs.{needs}
-use Rattle.vmd_format.specs.Records.{bone}
-use Rattle.vmd_reader.specs.Meaning.{place-answer}
-use Rattle.vmd_reader.proofs.Laws.{place-ends, map-declined, fetch-refused, bone-size, bone-name-at, empty-part, name-fetched}
+use Rattle.vmd_places.proofs.Parts.{cut-inside, cut-named}
+use Rattle.vmd_places.proofs.Fields.{bone-name, field-cuts}
 use Rattle.vmd_reader.proofs.bone_name.Statement.{statement}
 use Rattle.vmd_reader.proofs.bone_name.Tie as tie
 
-add-trim-fixed-bytes : tie.Need-add-trim-fixed-bytes
-add-trim-fixed-bytes c =
-    let t = c .before in
-    omega (arith, place-ends 111 _ _ _ _ (sym (t .before .before .place-of .ensures) ∙ ap place-answer (t .at .given .1)))
-
-part-trim-fixed-bytes-end : tie.Need-part-trim-fixed-bytes-end
-part-trim-fixed-bytes-end c =
-    let t = c .before in
-    omega (arith, place-ends 111 _ _ _ _ (sym (t .before .before .place-of .ensures) ∙ ap place-answer (t .at .given .1)))
+cut-requires : tie.Need-cut-requires
+cut-requires c κs = cut-inside (c .bone-name-part .ensures) (field-cuts bone-name _ _ _)
 
 returns : tie.Need-returns
-returns c =
-    let t = c .before in
-    empty-part _ _
-    (map-declined (λ x. x .name) _ _ (fetch-refused bone 111 bone-size _ _ _ _ (sym (t .before .before .place-of .ensures) ∙ ap place-answer (t .enum-told .given .1))))
-
-returns-2 : tie.Need-returns-2
-returns-2 c =
-    let t = c .before .before .before in
-    name-fetched bone 111 bone-size (λ x. x .name) 15 bone-name-at _ _ _ _ _ (sym (t .before .before .place-of .ensures) ∙ ap place-answer (t .at .given .1)) (c .trim-fixed-bytes .ensures)
+returns c = cut-named (c .before .bone-name-part .ensures) (field-cuts bone-name _ _ _) _ (c .cut .ensures)
 
 pub bone-name-spec : {M : Type 1} → statement M
-bone-name-spec =
-    tie.close
-    (tie.spec (λ c κs. search needs) (λ c. search needs) (λ c. search needs) (λ c. search needs) add-trim-fixed-bytes (λ c. search needs) (λ c. search needs)
-    part-trim-fixed-bytes-end (λ c κs. search needs) returns returns-2)
+bone-name-spec = tie.close (tie.spec (λ c κs. search needs) cut-requires returns)

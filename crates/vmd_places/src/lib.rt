@@ -1,0 +1,144 @@
+// Where records, names and interpolation bytes stand in a file. Internal: callers see to the lengths where a contract asks it.
+use vmd_base::VmdPart;
+use vmd_base::VmdRefusal;
+use vmd_base::VmdSection;
+use vmd_records::VmdParsedIkState;
+use vmd_records::VmdParsedPropertyFrame;
+ghost use mathlib.Core.Path.{_≡_};
+ghost use Prim.Native.Nat.{_+_, _≤_};
+ghost use lib.ListN.{length, take, drop};
+ghost use Rattle.vmd_format.specs.Fetch.{record-place, property-place};
+ghost use Rattle.vmd_format.specs.PlacesLaws.{Holds};
+ghost use Rattle.vmd_base.specs.Meaning.{part-is};
+ghost use Rattle.vmd_places.specs.Meaning.{place-answer, ik-place};
+ghost use Rattle.vmd_places.specs.Parts.{file-part, part-in, name-in, there};
+
+pub enum VmdPlace {
+    Refused(VmdRefusal),
+    At(usize),
+}
+
+// ---- places
+
+// Where record i of a section stands, all of it in the file.
+pub fn place_of(file: &[u8], section: VmdSection, record_size: usize, i: usize) -> VmdPlace
+    requires { ⌜ record_size ≤ 111 ⌝ }
+    ensures { λ r. ⌜ place-answer r ≡ record-place record_size (part-is section) i (now (file .entry)) ⌝ }
+{
+    let place = section.place;
+    if (section.count as usize) <= i {
+        return VmdPlace::Refused(VmdRefusal::Outside);
+    }
+    if file.len() < place {
+        return VmdPlace::Refused(VmdRefusal::Outside);
+    }
+    let offset = i * record_size;
+    if file.len() - place < offset + record_size {
+        return VmdPlace::Refused(VmdRefusal::Outside);
+    }
+    VmdPlace::At(place + offset)
+}
+
+// Where property frame i stands: the scratch names it. Every call for property frames, IK states and IK names goes through
+// here.
+pub fn place_of_property(file: &[u8], section: VmdSection, scratch: &[u64], i: usize) -> VmdPlace
+    ensures { λ r. ⌜ place-answer r ≡ property-place (part-is section) (now (scratch .entry)) i (now (file .entry)) ⌝ }
+{
+    if i >= (section.count as usize) {
+        return VmdPlace::Refused(VmdRefusal::Outside);
+    }
+    if scratch.len() <= i {
+        return VmdPlace::Refused(VmdRefusal::Outside);
+    }
+    let at = scratch[i] as usize;
+    if file.len() < at {
+        return VmdPlace::Refused(VmdRefusal::Outside);
+    }
+    if file.len() - at < VmdParsedPropertyFrame::SIZE {
+        return VmdPlace::Refused(VmdRefusal::Outside);
+    }
+    VmdPlace::At(at)
+}
+
+// Where IK state j of property frame i stands.
+pub fn place_of_ik_state(
+    file: &[u8],
+    section: VmdSection,
+    scratch: &[u64],
+    i: usize,
+    j: usize,
+) -> VmdPlace
+    ensures { λ r. ⌜ place-answer r ≡ ik-place (part-is section) (now (scratch .entry)) i j (now (file .entry)) ⌝ }
+{
+    match place_of_property(file, section, scratch, i) {
+        VmdPlace::Refused(k) => VmdPlace::Refused(k),
+        VmdPlace::At(at) => {
+            let count = vmd_bytes::read_u32_le(file, at + VmdParsedPropertyFrame::IK_COUNT_OFFSET);
+            let place = at + VmdParsedPropertyFrame::SIZE;
+            place_of(file, VmdSection { count, place }, VmdParsedIkState::SIZE, j)
+        }
+    }
+}
+
+// The bytes from a place on; none where it is past the end.
+pub fn bytes_from<'a>(file: &'a [u8], at: usize) -> &'a [u8]
+    ensures { λ r. ⌜ now r ≡ drop at (now (file .entry)) ⌝ }
+{
+    if file.len() < at {
+        return &file[..0];
+    }
+    &file[at..]
+}
+
+// ---- parts
+
+// n bytes from a place on.
+fn file_part(at: usize, n: usize) -> VmdPart
+    ensures { λ r. ⌜ r ≡ file-part at n ⌝ }
+{
+    if n == 0 {
+        return VmdPart { at: 0, len: 0 };
+    }
+    VmdPart { at, len: n }
+}
+
+// The name in a field of so many bytes.
+pub fn name_at(file: &[u8], at: usize, width: usize) -> VmdPart
+    requires { ⌜ at + width ≤ length (now file) ⌝ }
+    ensures { λ r. ⌜ r ≡ file-part at (length (name-in width (drop at (now (file .entry))))) ⌝ }
+{
+    let n = vmd_bytes::trim_fixed_bytes(&file[at..at + width]).len();
+    file_part(at, n)
+}
+
+// The name at the front of a record.
+pub fn name_of(file: &[u8], place: VmdPlace, width: usize) -> VmdPart
+    requires { ⌜ Holds (λ at. at + width ≤ length (now file)) (place-answer place) ⌝ }
+    ensures { λ r. ⌜ r ≡ part-in (place-answer place) 0 (there (name-in width) 0 (place-answer place) (now (file .entry))) ⌝ }
+{
+    match place {
+        VmdPlace::Refused(_) => VmdPart { at: 0, len: 0 },
+        VmdPlace::At(at) => name_at(file, at, width),
+    }
+}
+
+// n bytes, so far into a record.
+pub fn bytes_of(file: &[u8], place: VmdPlace, offset: usize, n: usize) -> VmdPart
+    requires { ⌜ Holds (λ at. at + offset + n ≤ length (now file)) (place-answer place) ⌝ }
+    ensures { λ r. ⌜ r ≡ part-in (place-answer place) offset (there (take n) offset (place-answer place) (now (file .entry))) ⌝ }
+{
+    match place {
+        VmdPlace::Refused(_) => VmdPart { at: 0, len: 0 },
+        VmdPlace::At(at) => file_part(at + offset, n),
+    }
+}
+
+// The bytes of a part.
+pub fn cut<'a>(file: &'a [u8], part: VmdPart) -> &'a [u8]
+    requires { ⌜ part .at + part .len ≤ length (now file) ⌝ }
+    ensures { λ r. ⌜ now r ≡ take (part .len) (drop (part .at) (now (file .entry))) ⌝ }
+{
+    let at = part.at;
+    let end = at + part.len;
+    &file[at..end]
+}

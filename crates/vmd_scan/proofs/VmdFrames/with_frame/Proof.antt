@@ -1,0 +1,10 @@
+-- `vmd_scan::VmdFrames::with_frame` meets its contract. Assumes nothing.
+use borrow.Author.Needs.{needs}
+use Rattle.vmd_scan.proofs.VmdFrames.with_frame.Statement.{statement}
+use Rattle.vmd_scan.proofs.VmdFrames.with_frame.Tie as tie
+
+returns : tie.Need-returns
+returns c = rw (c .larger .ensures)
+
+pub with-frame-spec : {M : Type 1} → statement M
+with-frame-spec = tie.close (tie.spec (λ c κs. search needs) returns)
