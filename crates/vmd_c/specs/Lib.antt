@@ -2,3 +2,4 @@ pub mod Meaning
 pub mod PartsOfFile
 pub mod Own
 pub mod Examples
+pub mod ReadBack

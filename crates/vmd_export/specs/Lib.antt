@@ -2,6 +2,5 @@ pub mod Meaning
 pub mod Saved
 pub mod Together
 pub mod Demand3
-pub mod ReadBack
 pub mod Refusals
 pub mod Examples

@@ -1,5 +1,5 @@
--- What is saved reads back, in the terms of the calls alone: open the bytes that export or joining left, with scratch enough,
--- fetch every number, and the records, names and interpolation bytes are those of the take. In every manner of reading.
+-- What is saved reads back, in the terms of the calls alone: open the bytes that export, joining or building left, with scratch
+-- enough, fetch every number, and the records, names and interpolation bytes are those of the take. In every manner of reading.
 use Prim.Native.Nat.{ℕ, _≤_}
 use mathlib.Core.Path.{_≡_}
 use mathlib.Core.List.{List}
@@ -14,7 +14,9 @@ use Rattle.vmd_format.specs.Join.{join}
 use Rattle.vmd_format.specs.JoinLaws.{Fit}
 use Rattle.vmd_format.specs.SavingLaws.{Accepted, Reads}
 use Rattle.vmd_reader.specs.Own.{Calls, own-calls}
+use Rattle.vmd_format.specs.Parts.{take-of-parts}
+use Rattle.vmd_parts.specs.Building.{Slices, Typed, parts, built-answer, built-file, build-back}
 use Rattle.vmd_export.specs.Demand3.{exported, joined, Enough, export-back, join-back}
 
 -- x is what a call left in its output: a file. Opening it with this scratch gives no refusal, and the figures of the take; and
 -- each call, with that opening and the scratch as opening left it, gives the take's records and parts, and nothing past them.
@@ -47,3 +49,7 @@ module _ (m : Manner) where
   pub join-reads-back : {a b : List ℕ} {t u : Take} (out scratch : List ℕ) → Accepted m a t → Accepted m b u → Fit t u → Enough (join t u) out
       → length (join t u .properties) ≤ length scratch → ReadBack m (joined m a b out) scratch (join t u)
   join-reads-back out scratch h k f n = reads-back scratch (join-back m out h k f n)
+
+  pub build-reads-back : (x : Slices) (out scratch : List ℕ) → Typed x → (n : ℕ) → built-answer x out ≡ given n
+      → length (take-of-parts (parts x) .properties) ≤ length scratch → ReadBack m (built-file x out) scratch (take-of-parts (parts x))
+  build-reads-back x out scratch h n e = reads-back scratch (build-back m x out h n e)
