@@ -1,23 +1,10 @@
--- What the types of the code mean in the terms of the format, by cases. Definitions only.
-use mathlib.Core.List.{List, map}
+-- The parts that the lists of a call are. Definitions only.
+use mathlib.Core.List.{List}
 use Prim.Native.Nat.{ℕ}
-use lib.Ieee.{Float, binary32, toBits}
+use lib.Ieee.{Float}
 use Rattle.vmd_format.specs.Parts as format
-use Rattle.vmd_checks.specs.declared.Frames.{Frames}
-use Rattle.vmd_checks.specs.declared.Frames.the-variants.{NotWhole, Whole}
-use Rattle.vmd_checks.specs.Stages.{Counted, not-whole, whole}
-
-abbrev pub frames-of : Frames → Counted
-frames-of NotWhole = not-whole
-frames-of (Whole n) = whole n
-
--- a name table
-abbrev pub table-of : List ℕ → List ℕ → format.NameTable
-table-of s l = record { bytes = s; ends = l }
-
--- the floats of a column by their bits
-abbrev pub bits : List Float → List ℕ
-bits l = map (toBits binary32) l
+use Rattle.vmd_check_tables.specs.Meaning.{table-of}
+use Rattle.vmd_check_columns.specs.Meaning.{bits}
 
 -- the parts that the lists of a call are
 abbrev pub parts-of : List ℕ → List ℕ → List ℕ → List ℕ → List ℕ → List ℕ → List ℕ → List ℕ → List ℕ → List ℕ → List ℕ → List Float → List Float → List ℕ → List ℕ → List ℕ → List Float → format.Parts

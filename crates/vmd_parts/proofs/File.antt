@@ -26,10 +26,11 @@ use Rattle.vmd_bytes.specs.Written.{Room, Wrote, Rest}
 use Rattle.vmd_bytes.proofs.Writes.{rest-as}
 use Rattle.vmd_output.specs.Sections.{rows, frame-rows}
 use Rattle.vmd_output.proofs.Saves.{Saves, same-saved, saves-nothing, saves-over, saves-room, saves-wrote}
-use Rattle.vmd_checks.specs.Stages.{bone-right, morph-right}
+use Rattle.vmd_check_columns.specs.Stages.{bone-right, morph-right}
 use Rattle.vmd_checks.proofs.Whole.{records-length}
-use Rattle.vmd_checks.proofs.Properties.{properties-framed}
-use Rattle.vmd_parts.specs.Stages.{BonesFit, bone-of, MorphsFit, morph-of, front-bytes, RecordsFit, back-bytes}
+use Rattle.vmd_check_records.proofs.Properties.{properties-framed}
+use Rattle.vmd_write_columns.specs.Stages.{BonesFit, bone-of, MorphsFit, morph-of}
+use Rattle.vmd_parts.specs.Stages.{front-bytes, RecordsFit, back-bytes}
 use Rattle.vmd_parts.proofs.Size.{Checked, checked, column-length, size-of-parts, size-is}
 
 -- ---- records from columns

@@ -1,5 +1,2 @@
 pub mod Size
-pub mod Names
-pub mod Writing
-pub mod Filling
 pub mod File

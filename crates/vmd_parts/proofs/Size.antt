@@ -16,7 +16,7 @@ use Rattle.vmd_format.specs.PartsLaws.{upto-length, next-passes, need-passes, C
 use Rattle.vmd_format.specs.SizedLaws.{camera-sized, light-sized, self-shadow-sized}
 use Rattle.vmd_output.proofs.Saves.{refused-answer, given-answer}
 use Rattle.vmd_format.specs.WalkLaws.{frames-total}
-use Rattle.vmd_checks.proofs.Properties.{properties-framed}
+use Rattle.vmd_check_records.proofs.Properties.{properties-framed}
 use Rattle.vmd_checks.proofs.Whole.{Whole, whole-are, records-length, whole-same}
 
 -- ---- the size

@@ -216,12 +216,12 @@ fn write_ik_states(out: &mut [u8], to: usize, src: &[u8], at: usize, n: usize) -
 {
     let mut p = at;
     let mut q = to;
-    let mut left = n;
-    while 0 < left {
+    let mut states = n;
+    while 0 < states {
         write_ik_state(src, p, out, q);
         p += IK_STATE_SIZE;
         q += IK_STATE_SIZE;
-        left -= 1;
+        states -= 1;
     }
     q
 }
@@ -260,12 +260,12 @@ pub fn write_properties(out: &mut [u8], to: usize, src: &[u8], at: usize, n: usi
 {
     let mut p = at;
     let mut q = to;
-    let mut left = n;
-    while 0 < left {
+    let mut frames = n;
+    while 0 < frames {
         let size = property_length(src, p);
         q = write_property(out, q, src, p);
         p += size;
-        left -= 1;
+        frames -= 1;
     }
     q
 }

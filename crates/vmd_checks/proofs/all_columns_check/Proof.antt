@@ -3,7 +3,7 @@ use mathlib.Core.Path.{ap, sym, _∙_}
 use borrow.Author.Needs.{needs}
 use Rattle.vmd_names.specs.Meaning.{check-of}
 use Rattle.vmd_checks.specs.Stages.{all-columns}
-use Rattle.vmd_checks.proofs.Checks.{chain-fails, chain-on}
+use Rattle.vmd_names.proofs.Checks.{chain-fails, chain-on}
 use Rattle.vmd_checks.proofs.Whole.{columns-bits, columns-hold}
 use Rattle.vmd_checks.proofs.all_columns_check.Statement.{statement}
 use Rattle.vmd_checks.proofs.all_columns_check.Tie as tie

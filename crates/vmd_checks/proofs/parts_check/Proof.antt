@@ -3,7 +3,7 @@ use mathlib.Core.Path.{refl, ap, sym, _∙_}
 use borrow.Author.Needs.{needs}
 use Rattle.vmd_format.specs.Refusal.{parts-not-whole}
 use Rattle.vmd_names.specs.Meaning.{check-of}
-use Rattle.vmd_checks.proofs.Checks.{need-true, need-false, chain-fails, chain-on}
+use Rattle.vmd_names.proofs.Checks.{need-true, need-false, chain-fails, chain-on}
 use Rattle.vmd_checks.proofs.Whole.{chain, chained, whole-are}
 use Rattle.vmd_checks.proofs.parts_check.Statement.{statement}
 use Rattle.vmd_checks.proofs.parts_check.Tie as tie

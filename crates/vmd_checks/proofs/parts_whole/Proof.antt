@@ -3,8 +3,8 @@ use mathlib.Core.Path.{refl}
 use borrow.Author.Needs.{needs}
 use Rattle.vmd_format.specs.SizedLaws.{camera-sized, light-sized, self-shadow-sized}
 use Rattle.vmd_checks.specs.Stages.{all-whole}
-use Rattle.vmd_checks.proofs.Checks.{and-fails, and-on}
-use Rattle.vmd_checks.proofs.Records.{none-over, some-over}
+use Rattle.vmd_names.proofs.Checks.{and-fails, and-on}
+use Rattle.vmd_check_records.proofs.Records.{none-over, some-over}
 use Rattle.vmd_checks.proofs.parts_whole.Statement.{statement}
 use Rattle.vmd_checks.proofs.parts_whole.Tie as tie
 

@@ -9,10 +9,10 @@ use Rattle.vmd_writers.proofs.write_ik_states.Statement.{statement}
 use Rattle.vmd_writers.proofs.write_ik_states.Tie as tie
 
 abbrev Inv-loop : tie.InvT-loop
-Inv-loop out₀ to src at n p₀ q₀ left₀ out p q left = Going ik-state 21 src out₀ to (write-all (ik-state .encode) (table ik-state n (drop at src))) out p q left
+Inv-loop out₀ to src at n p₀ q₀ states₀ out p q states = Going ik-state 21 src out₀ to (write-all (ik-state .encode) (table ik-state n (drop at src))) out p q states
 
 abbrev μ-loop : tie.MeasureT-loop
-μ-loop out₀ to src at n p₀ q₀ left₀ out p q left = left
+μ-loop out₀ to src at n p₀ q₀ states₀ out p q states = states
 
 loop-again : tie.Need-loop-again Inv-loop μ-loop
 loop-again c =

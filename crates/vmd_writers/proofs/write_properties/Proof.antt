@@ -9,10 +9,10 @@ use Rattle.vmd_writers.proofs.write_properties.Statement.{statement}
 use Rattle.vmd_writers.proofs.write_properties.Tie as tie
 
 abbrev Inv-loop : tie.InvT-loop
-Inv-loop out₀ to src at n p₀ q₀ left₀ out p q left = Walking src out₀ to (write-all (property .write) (frames-in src n at)) out p q left
+Inv-loop out₀ to src at n p₀ q₀ frames₀ out p q frames = Walking src out₀ to (write-all (property .write) (frames-in src n at)) out p q frames
 
 abbrev μ-loop : tie.MeasureT-loop
-μ-loop out₀ to src at n p₀ q₀ left₀ out p q left = left
+μ-loop out₀ to src at n p₀ q₀ frames₀ out p q frames = frames
 
 loop-holds : tie.Need-loop-holds Inv-loop μ-loop
 loop-holds c = walking-start (c .before .before .pre .0) (c .before .before .pre .1)
@@ -22,22 +22,20 @@ unfolding next-frame
 property-length-requires c κs = omega (arith, walking-lies (c .before .loop .inv) (omega arith))
 
 write-property-requires : tie.Need-write-property-requires Inv-loop μ-loop
-write-property-requires c κs = (walking-lies (c .before .before .before .loop .inv) (omega arith), walking-room (c .before .before .before .loop .inv) (omega arith))
+write-property-requires c κs =
+    let g = c .before .before .before .loop .inv in
+    (walking-lies g (omega arith), walking-room g (omega arith))
 
 add-p : tie.Need-add-p Inv-loop μ-loop
-add-p c = omega (arith, walking-lies (c .before .before .before .before .before .before .loop .inv) (omega arith), c .before .before .before .before .property-length .ensures)
-
-sub-left : tie.Need-sub-left Inv-loop μ-loop
-sub-left c = omega arith
-
-loop-less : tie.Need-loop-less Inv-loop μ-loop
-loop-less c = omega arith
+add-p c =
+    let sized = c .before .before .before .before in
+    omega (arith, walking-lies (sized .before .before .loop .inv) (omega arith), sized .property-length .ensures)
 
 loop-again : tie.Need-loop-again Inv-loop μ-loop
-loop-again c = walking-turn (c .before .before .before .before .before .before .loop .inv) (omega arith) (c .before .before .before .before .property-length .result) (c .before .before .before .before .property-length .ensures) (c .before .before .write-property .ensures)
-
-same-length : tie.Need-same-length Inv-loop μ-loop
-same-length c = c .before .loop .inv .rest .kept
+loop-again c =
+    let turn = c .before .before in
+    let size = turn .before .before in
+    walking-turn (size .before .before .loop .inv) (omega arith) (size .property-length .result) (size .property-length .ensures) (turn .write-property .ensures)
 
 returns : tie.Need-returns Inv-loop μ-loop
 returns c = walking-end (c .before .loop .inv) (omega arith)
@@ -45,5 +43,5 @@ returns c = walking-end (c .before .loop .inv) (omega arith)
 pub write-properties-spec : {M : Type 1} → statement M
 write-properties-spec =
     tie.close (tie.spec
-    Inv-loop μ-loop loop-holds property-length-requires write-property-requires add-p sub-left loop-less loop-again
-    same-length returns)
+    Inv-loop μ-loop loop-holds property-length-requires write-property-requires add-p (λ c. omega arith) (λ c. omega arith)
+    loop-again (λ c. c .before .loop .inv .rest .kept) returns)
