@@ -5,11 +5,12 @@ use mathlib.Core.Bool.{true, false}
 use mathlib.Core.List.{[], _∷_}
 use lib.IntN.{pos}
 use lib.Ieee.{nan, fin, ofBits}
-use Rattle.vmd_format.specs.Refusal.{file-ends-early, output-too-short}
+use Rattle.vmd_format.specs.Refusal.{file-ends-early, outside, output-too-short}
 use Rattle.vmd_format.specs.Answer.{declined, given}
 use Rattle.vmd_format.specs.Records.{Light}
 use Rattle.vmd_format.specs.Opening.{Scan, Opening}
 use Rattle.vmd_format.specs.Computed.{computed}
+use Rattle.vmd_places.specs.Parts.{file-part, part-in}
 use Rattle.vmd_c.specs.Meaning.{status, slot-after, counts-of, places-of, totals-of, part-at, scan-at, bone-words, morph-words, camera-words, light-values, light-words, self-shadow-words, property-words, part-words, joined-words, file-of}
 
 -- 0, or the number; the new value, or the old
@@ -89,8 +90,9 @@ a-property = (refl, refl)
 
 -- where and how long, 0, 0 for none; of a joined name first in which file
 pub parts :
-    (part-words 30 (77 ∷ 105 ∷ []) ≡ 30 ∷ 2 ∷ []) × (part-words 30 [] ≡ 0 ∷ 0 ∷ [])
+    (part-words (file-part 30 2) ≡ 30 ∷ 2 ∷ []) × (part-words (file-part 30 0) ≡ 0 ∷ 0 ∷ [])
+    × (part-words (part-in (given 100) 47 (77 ∷ 105 ∷ [])) ≡ 147 ∷ 2 ∷ []) × (part-words (part-in (declined outside) 47 (77 ∷ [])) ≡ 0 ∷ 0 ∷ [])
     × (joined-words (77 ∷ 105 ∷ []) (78 ∷ []) ≡ 0 ∷ 30 ∷ 2 ∷ []) × (joined-words [] (78 ∷ []) ≡ 1 ∷ 30 ∷ 1 ∷ []) × (joined-words [] [] ≡ 0 ∷ 0 ∷ 0 ∷ [])
     × (file-of (1 ∷ []) (2 ∷ []) 0 ≡ 1 ∷ []) × (file-of (1 ∷ []) (2 ∷ []) 1 ≡ 2 ∷ [])
-unfolding part-words joined-words file-of
-parts = (refl, refl, refl, refl, refl, refl, refl)
+unfolding file-part part-in joined-words file-of
+parts = (refl, refl, refl, refl, refl, refl, refl, refl, refl)

@@ -10,12 +10,15 @@ use lib.Dec.{ltb, leb, lit<}
 use lib.ListN.{length, getD, set, take, length-append}
 use lib.Seq.{take-all, length-take-le}
 use Rattle.vmd_format.specs.Refusal.{Refusal, number}
-use Rattle.vmd_format.specs.Answer.{declined, given}
-use Rattle.vmd_format.specs.Read.{lenient}
-use Rattle.vmd_format.specs.Opening.{Opening, open-file, scratch-after}
+use Rattle.vmd_format.specs.Answer.{Answer, declined, given, within}
+use Rattle.vmd_format.specs.AnswerLaws.{within-fits}
+use Rattle.vmd_format.specs.Read.{Manner}
+use Rattle.vmd_format.specs.Opening.{Scan, Opening, open-file, scratch-after}
 use Rattle.vmd_bytes.specs.Slices.{splice, part}
-use Rattle.vmd_bytes.proofs.Laws.{length-splice, splice-nil, splice-append, set-splice, part-snoc}
-use Rattle.vmd_line.specs.Line.{tens-if, digits, decimal, spaced, row, too-long, refused-line, numbers, line-of, line-if, line, line-scratch-if, line-scratch}
+use Rattle.vmd_bytes.specs.Written.{Room, Wrote}
+use Rattle.vmd_bytes.proofs.Laws.{length-splice, splice-nil, set-splice, part-snoc}
+use Rattle.vmd_bytes.proofs.Writes.{rest-all, rest-then, rest-done}
+use Rattle.vmd_line.specs.Line.{tens-if, digits, decimal, spaced, row, too-long, refused-line, export-size, numbers, line-of, line-if, line, line-scratch-if, line-scratch}
 
 -- ---- decimal digits
 
@@ -57,15 +60,6 @@ decimal-short n h = length-decimal 19 n (lt-trans h (lit< tt))
 
 -- ---- writes one after another
 
--- vs has been written into l from `to` on: what l is then, and the place after
-pub record Wrote (l : List ℕ) (to : ℕ) (vs m : List ℕ) (at : ℕ) : Type 0 where
-  pub list : m ≡ splice l to vs
-  pub next : at ≡ to + length vs
-  pub room : at ≤ length l
-
-pub wrote-length : (l : List ℕ) (to : ℕ) (vs m : List ℕ) (at : ℕ) → Wrote l to vs m at → length m ≡ length l
-wrote-length l to vs m at w = rw (w .list) (length-splice l to vs (omega (arith, w .next, w .room)))
-
 -- what is written at the front fits, for a caller that lends it on
 pub front-fits : (l vs m : List ℕ) (r : ℕ) → m ≡ splice l 0 vs → r ≡ length vs → (r ≤ length m) × (r ≡ length (take r m))
 unfolding splice
@@ -73,36 +67,36 @@ front-fits l vs m r e n =
     let h : r ≤ length m = omega (arith, simp length-append at (ap length e)) in
     (h, sym (length-take-le r m h))
 
--- a write where another ends
-pub wrote-more : (l : List ℕ) (to : ℕ) (u v m k : List ℕ) (at end : ℕ) → Wrote l to u m at → k ≡ splice m at v → end ≡ at + length v → end ≤ length l
-    → Wrote l to (u ++ v) k end
-wrote-more l to u v m k at end w e n r = record {
-  list = e ∙ rw (w .list, w .next) (splice-append l to u v (omega (arith, w .next, w .room)));
-  next = rw length-append (omega (arith, w .next));
-  room = r;
-}
+module _ {l u m : List ℕ} {to at : ℕ} (w : Wrote l to u m at) where
+  pub wrote-length : at ≤ length l → length m ≡ length l
+  wrote-length h = rw (w .holds) (length-splice l to u (omega (arith, w .ends)))
 
--- a store where a write ends
-pub wrote-byte : (l : List ℕ) (to : ℕ) (u m : List ℕ) (at a : ℕ) → Wrote l to u m at → at < length l → Wrote l to (u ++ (a ∷ [])) (set m at a) (at + 1)
-wrote-byte l to u m at a w h =
-    wrote-more l to u (a ∷ []) m (set m at a) at (at + 1) w (set-splice m at a (rw (wrote-length l to u m at w) h)) refl (omega arith)
+  -- a write where another ends
+  pub wrote-more : {v k : List ℕ} {end : ℕ} → Wrote m at v k end → end ≤ length l → Wrote l to (u ++ v) k end
+  wrote-more {v} x h =
+      let r : Room l to (u ++ v) = record { room = omega (arith, length-append u v, w .ends, x .ends) } in
+      rest-done (rest-then v (rest-all r) w) x
+
+  -- a store there
+  pub wrote-byte : (a : ℕ) → at < length l → Wrote l to (u ++ (a ∷ [])) (set m at a) (at + 1)
+  wrote-byte a h = wrote-more (record { holds = set-splice m at a (rw (wrote-length (omega arith)) h); ends = refl }) (omega arith)
 
 -- nothing written yet
-pub wrote-none : (l : List ℕ) (to : ℕ) → to ≤ length l → Wrote l to [] l to
-wrote-none l to h = record { list = sym (splice-nil l to); next = omega arith; room = h }
+pub wrote-none : (l : List ℕ) (to : ℕ) → Wrote l to [] l to
+wrote-none l to = record { holds = sym (splice-nil l to); ends = omega arith }
 
 -- a number's only digit, and its last
 module _ (l : List ℕ) (to n : ℕ) (h : to + 20 ≤ length l) where
   pub digit-one : n < 10 → Wrote l to (decimal n) (set l to (48 + n % 10)) (to + 1)
-  digit-one k = rw (decimal-one n k) (wrote-byte l to [] l to (48 + n % 10) (wrote-none l to (omega arith)) (omega arith))
+  digit-one k = rw (decimal-one n k) (wrote-byte (wrote-none l to) (48 + n % 10) (omega arith))
 
-  pub digit-more : (m : List ℕ) (at : ℕ) → n < 18446744073709551616 → 10 ≤ n → m ≡ splice l to (decimal (n / 10)) → at ≡ to + length (decimal (n / 10))
+  pub digit-more : (m : List ℕ) (at : ℕ) → n < 18446744073709551616 → 10 ≤ n → Wrote l to (decimal (n / 10)) m at
       → (at < length m) × Wrote l to (decimal n) (set m at (48 + n % 10)) (at + 1)
-  digit-more m at f k e q =
+  digit-more m at f k w =
       let d : decimal n ≡ decimal (n / 10) ++ ((48 + n % 10) ∷ []) = decimal-more n k in
       let s : length (decimal (n / 10)) + 1 ≤ 20 = omega (arith, ap length d, length-append (decimal (n / 10)) ((48 + n % 10) ∷ []), decimal-short n f) in
-      let w : Wrote l to (decimal (n / 10)) m at = record { list = e; next = q; room = omega arith } in
-      (omega (arith, wrote-length l to (decimal (n / 10)) m at w), rw d (wrote-byte l to (decimal (n / 10)) m at (48 + n % 10) w (omega arith)))
+      let r : at < length l = omega (arith, w .ends) in
+      (omega (arith, wrote-length w (omega arith)), rw d (wrote-byte w (48 + n % 10) r))
 
 -- ---- rows of numbers
 
@@ -113,15 +107,15 @@ spaced-snoc (a ∷ l) n = ap (λ t. 32 ∷ t) (rw (spaced-snoc l n) (sym (append
 
 -- the numbers after the first, of which i - 1 are written: a space and one more
 pub row-turn : (ns o out k : List ℕ) (from at i end : ℕ) → 1 ≤ i → i < length ns → Wrote o from (spaced (part ns 1 (i - 1))) out at → at < length o
-    → k ≡ splice (set out at 32) (at + 1) (decimal (getD ns i 0)) → end ≡ at + 1 + length (decimal (getD ns i 0)) → end ≤ length o
+    → Wrote (set out at 32) (at + 1) (decimal (getD ns i 0)) k end → end ≤ length o
     → Wrote o from (spaced (part ns 1 (i + 1 - 1))) k end
-row-turn ns o out k from at i end g h w r e n f =
+row-turn ns o out k from at i end g h w r d f =
     let u = spaced (part ns 1 (i - 1)) in
     let a : i + 1 - 1 ≡ i - 1 + 1 = omega arith in
     let b : 1 + (i - 1) ≡ i = omega arith in
     let p : part ns 1 (i - 1 + 1) ≡ part ns 1 (i - 1) ++ (getD ns i 0 ∷ []) = rw (part-snoc ns 1 (i - 1) (omega arith), b) in
     rw (a, p, spaced-snoc (part ns 1 (i - 1)) (getD ns i 0), ← append-assoc u (32 ∷ []) (decimal (getD ns i 0)))
-    (wrote-more o from (u ++ (32 ∷ [])) (decimal (getD ns i 0)) (set out at 32) k (at + 1) end (wrote-byte o from u out at 32 w r) e n f)
+    (wrote-more (wrote-byte w 32 r) d f)
 
 row-parts : (ns : List ℕ) → length ns ≡ 9 → row ns ≡ decimal (getD ns 0 0) ++ spaced (part ns 1 8) ++ (10 ∷ [])
 unfolding row part
@@ -131,44 +125,48 @@ row-parts (n ∷ l) h = rw (take-all 8 l (omega arith))
 -- the first number, the others and a line feed
 pub row-done : (l ns o out : List ℕ) (from at : ℕ) → length ns ≡ 9 → Wrote l 0 (decimal (getD ns 0 0)) o from → Wrote o from (spaced (part ns 1 8)) out at
     → at < length l → Wrote l 0 (row ns) (set out at 10) (at + 1)
-row-done l ns o out from at h v w r =
-    rw (row-parts ns h)
-    (wrote-byte l 0 (decimal (getD ns 0 0) ++ spaced (part ns 1 8)) out at 10
-    (wrote-more l 0 (decimal (getD ns 0 0)) (spaced (part ns 1 8)) o out from at v (w .list) (w .next) (omega arith)) r)
+row-done l ns o out from at h v w r = rw (row-parts ns h) (wrote-byte (wrote-more v w (omega arith)) 10 r)
 
 -- ---- the line of a refusal: the word, the number and a line feed
-pub refused-done : (l m k e : List ℕ) (n at to end : ℕ) → length l ≡ 256 → m ≡ splice l 0 (114 ∷ 101 ∷ 102 ∷ 117 ∷ 115 ∷ 101 ∷ 100 ∷ 32 ∷ []) → at ≡ 0 + 8
-    → k ≡ splice m at (decimal n) → to ≡ at + length (decimal n) → to ≤ at + 20 → e ≡ splice k to (10 ∷ []) → end ≡ to + 1
-    → (e ≡ splice l 0 (refused-line n)) × (end ≡ length (refused-line n))
+
+pub refused-done : (l m k e : List ℕ) (n at to end : ℕ) → length l ≡ 256 → Wrote l 0 (114 ∷ 101 ∷ 102 ∷ 117 ∷ 115 ∷ 101 ∷ 100 ∷ 32 ∷ []) m at
+    → Wrote m at (decimal n) k to → to ≤ at + 20 → Wrote k to (10 ∷ []) e end → Wrote l 0 (refused-line n) e end
 unfolding refused-line
-refused-done l m k e n at to end h a b p q r s t =
-    let word : List ℕ = 114 ∷ 101 ∷ 102 ∷ 117 ∷ 115 ∷ 101 ∷ 100 ∷ 32 ∷ [] in
-    let u : Wrote l 0 word m at = record { list = a; next = b; room = omega arith } in
-    let v = wrote-more l 0 word (decimal n) m k at to u p q (omega arith) in
-    let w = wrote-more l 0 (word ++ decimal n) (10 ∷ []) k e to end v s t (omega arith) in
-    (w .list, omega (arith, w .next))
+refused-done l m k e n at to end h a p r t =
+    wrote-more (wrote-more a p (omega (arith, a .ends))) t (omega (arith, a .ends, t .ends))
 
 -- ---- the cases of a line
 
-module _ (file : List ℕ) (places : ℕ) where
-  pub line-long : 65536 < length file → line file places ≡ too-long
+module _ (m : Manner) (file : List ℕ) (places : ℕ) where
+  pub line-long : 65536 < length file → line m file places ≡ too-long
   unfolding line line-if
   line-long h = rw (lt-leb (length file) 65536 h)
 
   module _ (h : length file ≤ 65536) where
-    pub line-refused : (k : Refusal) → declined k ≡ open-file lenient file places → line file places ≡ refused-line (number k)
+    pub line-refused : (k : Refusal) → declined k ≡ open-file m file places → line m file places ≡ refused-line (number k)
     unfolding line line-if line-of
     line-refused k e = rw (le-leb (length file) 65536 h, ← e)
 
-    pub line-opened : (o : Opening) → given o ≡ open-file lenient file places → line file places ≡ row (numbers o)
+    pub line-opened : (o : Opening) → given o ≡ open-file m file places → line m file places ≡ row (numbers o)
     unfolding line line-if line-of
     line-opened o e = rw (le-leb (length file) 65536 h, ← e)
 
-module _ (file scratch : List ℕ) where
-  pub scratch-long : 65536 < length file → line-scratch file scratch ≡ scratch
+module _ (m : Manner) (file scratch : List ℕ) where
+  pub scratch-long : 65536 < length file → line-scratch m file scratch ≡ scratch
   unfolding line-scratch line-scratch-if
   scratch-long h = rw (lt-leb (length file) 65536 h)
 
-  pub scratch-short : length file ≤ 65536 → line-scratch file scratch ≡ scratch-after lenient file scratch
+  pub scratch-short : length file ≤ 65536 → line-scratch m file scratch ≡ scratch-after m file scratch
   unfolding line-scratch line-scratch-if
   scratch-short h = rw (le-leb (length file) 65536 h)
+
+-- the length of an export that there is, and that there is one
+module _ (x : Scan) (h : export-size x ≤ 18446744073709551615) where
+  size-is : {y : Answer ℕ} → y ≡ within 18446744073709551615 (export-size x) → given (export-size x) ≡ y
+  size-is e = within-fits 18446744073709551615 (export-size x) h ∙ sym e
+
+  pub size-given : (y : Answer ℕ) (n : ℕ) → y ≡ within 18446744073709551615 (export-size x) → y ≡ given n → n ≡ export-size x
+  size-given y n e q = let z : given (export-size x) ≡ given n = size-is e ∙ q in cc
+
+  pub size-there : (y : Answer ℕ) (k : Refusal) → y ≡ within 18446744073709551615 (export-size x) → y ≡ declined k → 0 ≡ export-size x
+  size-there y k e q = let z : given (export-size x) ≡ declined k = size-is e ∙ q in let c : _≡_ {A = ℕ} 0 1 = cc in absurd (omega arith)

@@ -7,14 +7,14 @@ use native.Mathlib.Omega.{arith}
 use lib.Dec.{T}
 use lib.ListN.{length}
 use Rattle.vmd_format.specs.Answer.{given, map-answer}
-use Rattle.vmd_format.specs.Read.{lenient}
+use Rattle.vmd_format.specs.Read.{Manner, lenient}
 use Rattle.vmd_format.specs.Take.{same}
 use Rattle.vmd_format.specs.Opening.{Opening, open-file}
 use Rattle.vmd_format.specs.Join.{export-file, file-length}
 use Rattle.vmd_format.specs.Places.{scan-file}
 use Rattle.vmd_format.specs.OpeningLaws.{ninth-enough}
 use Rattle.vmd_format.specs.InsideLaws.{opened-scan}
-use Rattle.vmd_format.specs.RefusalLaws.{Refuses, enough-refuses}
+use Rattle.vmd_format.specs.RefusalLaws.{Refuses, reading-numbers, enough-refuses}
 use Rattle.vmd_format.specs.ExportLaws.{take-in, export-by-places, scan-scanned, scan-counts, scan-length}
 use Rattle.vmd_format.specs.Computed.{computed, start, u0}
 use Rattle.vmd_line.specs.Line.{tens-if, digits, decimal, spaced, row, too-long, refused-line, export-size, numbers, line-of, line-if, line}
@@ -22,19 +22,23 @@ use Rattle.vmd_line.specs.Line.{tens-if, digits, decimal, spaced, row, t
 -- ---- the export length
 
 -- the last number of the line is the length of the export
-pub export-is-as-long : (s : List ℕ) (places : ℕ) (o : Opening) → open-file lenient s places ≡ given o
-    → map-answer length (export-file lenient s) ≡ given (export-size (o .scan))
+pub export-is-as-long : (m : Manner) (s : List ℕ) (places : ℕ) (o : Opening) → open-file m s places ≡ given o
+    → map-answer length (export-file m s) ≡ given (export-size (o .scan))
 unfolding map-answer export-size
-export-is-as-long s places o e =
-    let q : scan-file lenient s ≡ given (o .scan) = opened-scan lenient s places o e in
-    rw (export-by-places lenient s, q) (ap given (scan-length (take-in s (o .scan)) (o .scan) (scan-counts s (o .scan) (scan-scanned lenient s (o .scan) q))))
+export-is-as-long m s places o e =
+    let q : scan-file m s ≡ given (o .scan) = opened-scan m s places o e in
+    rw (export-by-places m s, q) (ap given (scan-length (take-in s (o .scan)) (o .scan) (scan-counts s (o .scan) (scan-scanned m s (o .scan) q))))
 
 -- ---- scratch enough
 
 -- with 8,192 places no file of at most 65,536 bytes is refused with 3, since a property frame has at least nine bytes
-pub scratch-is-enough : (s : List ℕ) → length s ≤ 65536 → Refuses (1 ∷ 2 ∷ []) (open-file lenient s 8192)
+pub scratch-is-enough : (m : Manner) (s : List ℕ) → length s ≤ 65536 → Refuses (reading-numbers m) (open-file m s 8192)
+scratch-is-enough m s h = enough-refuses m s 8192 (ninth-enough m s 8192 (omega arith))
+
+-- in the lenient manner, only with 1 or 2
+pub refused-early : (s : List ℕ) → length s ≤ 65536 → Refuses (1 ∷ 2 ∷ []) (open-file lenient s 8192)
 unfolding lenient
-scratch-is-enough s h = enough-refuses lenient s 8192 (ninth-enough lenient s 8192 (omega arith))
+refused-early s h = scratch-is-enough lenient s h
 
 -- ---- examples
 
@@ -43,7 +47,7 @@ pub examples : T (
     same (decimal 0) (48 ∷ [])
     && same (decimal 10) (49 ∷ 48 ∷ [])
     && same (decimal 65536) (54 ∷ 53 ∷ 53 ∷ 51 ∷ 54 ∷ [])
-    && same (line (start ++ u0) 0) (48 ∷ 32 ∷ 48 ∷ 32 ∷ 48 ∷ 32 ∷ 48 ∷ 32 ∷ 48 ∷ 32 ∷ 48 ∷ 32 ∷ 48 ∷ 32 ∷ 48 ∷ 32 ∷ 55 ∷ 52 ∷ 10 ∷ [])
-    && same (line start 0) (114 ∷ 101 ∷ 102 ∷ 117 ∷ 115 ∷ 101 ∷ 100 ∷ 32 ∷ 49 ∷ 10 ∷ []))
+    && same (line lenient (start ++ u0) 0) (48 ∷ 32 ∷ 48 ∷ 32 ∷ 48 ∷ 32 ∷ 48 ∷ 32 ∷ 48 ∷ 32 ∷ 48 ∷ 32 ∷ 48 ∷ 32 ∷ 48 ∷ 32 ∷ 55 ∷ 52 ∷ 10 ∷ [])
+    && same (line lenient start 0) (114 ∷ 101 ∷ 102 ∷ 117 ∷ 115 ∷ 101 ∷ 100 ∷ 32 ∷ 49 ∷ 10 ∷ []))
 unfolding computed file-length tens-if digits decimal spaced row too-long refused-line export-size numbers line-of line-if line
 examples = tt

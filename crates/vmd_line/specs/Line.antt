@@ -6,7 +6,7 @@ use lib.ListN.{length}
 use lib.Dec.{leb, ltb}
 use Rattle.vmd_format.specs.Refusal.{number}
 use Rattle.vmd_format.specs.Answer.{Answer, declined, given}
-use Rattle.vmd_format.specs.Read.{lenient}
+use Rattle.vmd_format.specs.Read.{Manner}
 use Rattle.vmd_format.specs.Opening.{Scan, Opening, open-file, scratch-after}
 use Rattle.vmd_format.specs.Join.{file-length}
 
@@ -64,18 +64,18 @@ line-of (declined k) = refused-line (number k)
 line-of (given o) = row (numbers o)
 
 -- the line where the file is short enough, and where it is not
-unfoldable pub line-if : Bool → List ℕ → ℕ → List ℕ
-line-if true file places = line-of (open-file lenient file places)
-line-if false file places = too-long
+unfoldable pub line-if : Bool → Manner → List ℕ → ℕ → List ℕ
+line-if true m file places = line-of (open-file m file places)
+line-if false m file places = too-long
 
 -- "reads standard input of up to 65,536 bytes, opens it with scratch enough and prints one line"
-unfoldable pub line : List ℕ → ℕ → List ℕ
-line file places = line-if (leb (length file) 65536) file places
+unfoldable pub line : Manner → List ℕ → ℕ → List ℕ
+line m file places = line-if (leb (length file) 65536) m file places
 
 -- the scratch that the line leaves: that of opening, and all of it where the file is too long
-unfoldable pub line-scratch-if : Bool → List ℕ → List ℕ → List ℕ
-line-scratch-if true file scratch = scratch-after lenient file scratch
-line-scratch-if false file scratch = scratch
+unfoldable pub line-scratch-if : Bool → Manner → List ℕ → List ℕ → List ℕ
+line-scratch-if true m file scratch = scratch-after m file scratch
+line-scratch-if false m file scratch = scratch
 
-unfoldable pub line-scratch : List ℕ → List ℕ → List ℕ
-line-scratch file scratch = line-scratch-if (leb (length file) 65536) file scratch
+unfoldable pub line-scratch : Manner → List ℕ → List ℕ → List ℕ
+line-scratch m file scratch = line-scratch-if (leb (length file) 65536) m file scratch

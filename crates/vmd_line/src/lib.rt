@@ -1,11 +1,16 @@
 // The line that vmd-list prints for a file, on slices.
+use vmd_base::VmdManner;
+use vmd_output::VmdWritten;
 use vmd_reader::VmdOpened;
 use vmd_reader::VmdOpening;
 use vmd_scan::VmdSections;
 ghost use mathlib.Core.Path.{_≡_};
 ghost use Prim.Native.Nat.{_+_, _%_, _≤_};
 ghost use lib.ListN.{length};
+ghost use Rattle.vmd_format.specs.Read.{lenient};
+ghost use Rattle.vmd_base.specs.Meaning.{manner-of};
 ghost use Rattle.vmd_bytes.specs.Slices.{splice};
+ghost use Rattle.vmd_bytes.specs.Written.{Room, Wrote};
 ghost use Rattle.vmd_scan.specs.Meaning.{scan-is};
 ghost use Rattle.vmd_reader.specs.Meaning.{opening-is};
 ghost use Rattle.vmd_line.specs.Line.{decimal, row, refused-line, export-size, numbers, line, line-scratch};
@@ -25,8 +30,7 @@ fn digit(n: u64) -> u8
 // Writes n in decimal into out from `to` on, and returns the place after it.
 fn write_decimal(out: &mut [u8], to: usize, n: u64) -> usize
     requires { ⌜ to + 20 ≤ length (now out) ⌝ }
-    ensures { λ _. ⌜ now (out .exit) ≡ splice (now (out .entry)) to (decimal n) ⌝ }
-    ensures { λ r. ⌜ r ≡ to + length (decimal n) ⌝ }
+    ensures { λ r. ⌜ Wrote (now (out .entry)) to (decimal n) (now (out .exit)) r ⌝ }
     ensures { λ r. ⌜ r ≤ to + 20 ⌝ }
 {
     if n < 10 {
@@ -41,9 +45,8 @@ fn write_decimal(out: &mut [u8], to: usize, n: u64) -> usize
 
 // Writes text into out from `to` on, and returns the place after it.
 fn write_text(out: &mut [u8], to: usize, text: &[u8]) -> usize
-    requires { ⌜ to + length (now text) ≤ length (now out) ⌝ }
-    ensures { λ _. ⌜ now (out .exit) ≡ splice (now (out .entry)) to (now (text .entry)) ⌝ }
-    ensures { λ r. ⌜ r ≡ to + length (now (text .entry)) ⌝ }
+    requires { ⌜ Room (now out) to (now text) ⌝ }
+    ensures { λ r. ⌜ Wrote (now (out .entry)) to (now (text .entry)) (now (out .exit)) r ⌝ }
 {
     let n = text.len();
     vmd_bytes::copy_bytes(text, 0, out, to, n);
@@ -53,8 +56,7 @@ fn write_text(out: &mut [u8], to: usize, text: &[u8]) -> usize
 // Writes nine numbers with single spaces between them and a line feed, and returns their length.
 fn write_row(out: &mut [u8], numbers: &[u64]) -> usize
     requires { ⌜ (length (now out) ≡ 256) × (length (now numbers) ≡ 9) ⌝ }
-    ensures { λ _. ⌜ now (out .exit) ≡ splice (now (out .entry)) 0 (row (now (numbers .entry))) ⌝ }
-    ensures { λ r. ⌜ r ≡ length (row (now (numbers .entry))) ⌝ }
+    ensures { λ r. ⌜ Wrote (now (out .entry)) 0 (row (now (numbers .entry))) (now (out .exit)) r ⌝ }
 {
     let mut at = write_decimal(out, 0, numbers[0]);
     let mut i = 1;
@@ -70,27 +72,31 @@ fn write_row(out: &mut [u8], numbers: &[u64]) -> usize
 // Writes the line of a refusal, and returns its length.
 fn write_refused(out: &mut [u8], number: u32) -> usize
     requires { ⌜ length (now out) ≡ 256 ⌝ }
-    ensures { λ _. ⌜ now (out .exit) ≡ splice (now (out .entry)) 0 (refused-line number) ⌝ }
-    ensures { λ r. ⌜ r ≡ length (refused-line number) ⌝ }
+    ensures { λ r. ⌜ Wrote (now (out .entry)) 0 (refused-line number) (now (out .exit)) r ⌝ }
 {
     let at = write_text(out, 0, b"refused ");
     let end = write_decimal(out, at, number as u64);
     write_text(out, end, b"\n")
 }
 
-// How long the export is. Few IK states, so that the sum fits.
+// How long the export is. Few IK states, so that there is such a length.
 fn export_size(sections: VmdSections) -> u64
     requires { ⌜ sections .«ik_states» ≤ 65536 ⌝ }
     ensures { λ r. ⌜ r ≡ export-size (scan-is sections) ⌝ }
 {
-    74
-        + 111 * (sections.bones.count as u64)
-        + 23 * (sections.morphs.count as u64)
-        + 61 * (sections.cameras.count as u64)
-        + 28 * (sections.lights.count as u64)
-        + 9 * (sections.self_shadows.count as u64)
-        + 9 * (sections.properties.count as u64)
-        + 21 * sections.ik_states
+    match vmd_output::file_size(
+        vmd_output::LARGEST,
+        sections.bones.count,
+        sections.morphs.count,
+        sections.cameras.count,
+        sections.lights.count,
+        sections.self_shadows.count,
+        sections.properties.count,
+        sections.ik_states,
+    ) {
+        VmdWritten::Refused(_) => 0,
+        VmdWritten::Bytes(n) => n,
+    }
 }
 
 // The nine numbers of an opening.
@@ -113,20 +119,30 @@ fn numbers_of(opening: VmdOpening) -> [u64; 9]
     ]
 }
 
-// Writes the line of a file at the front of out, and returns its length. scratch is left as opening leaves it.
-pub fn list_line(file: &[u8], scratch: &mut [u64], out: &mut [u8; LINE_SIZE]) -> usize
-    ensures { λ _. ⌜ now (out .exit) ≡ splice (now (out .entry)) 0 (line (now (file .entry)) (length (now (scratch .entry)))) ⌝ }
-    ensures { λ r. ⌜ r ≡ length (line (now (file .entry)) (length (now (scratch .entry)))) ⌝ }
-    ensures { λ _. ⌜ now (scratch .exit) ≡ line-scratch (now (file .entry)) (now (scratch .entry)) ⌝ }
+// Writes the line of a file, read in a manner, at the front of out, and returns its length. scratch is left as opening leaves
+// it.
+fn write_line(file: &[u8], manner: VmdManner, scratch: &mut [u64], out: &mut [u8]) -> usize
+    requires { ⌜ length (now out) ≡ 256 ⌝ }
+    ensures { λ r. ⌜ Wrote (now (out .entry)) 0 (line (manner-of manner) (now (file .entry)) (length (now (scratch .entry)))) (now (out .exit)) r ⌝ }
+    ensures { λ _. ⌜ now (scratch .exit) ≡ line-scratch (manner-of manner) (now (file .entry)) (now (scratch .entry)) ⌝ }
 {
     if MOST_BYTES < file.len() {
         return write_text(out, 0, b"too long\n");
     }
-    match vmd_reader::parse_vmd_animation(file, scratch) {
+    match vmd_reader::open_file(file, manner, scratch) {
         VmdOpened::Refused(k) => write_refused(out, k.number()),
         VmdOpened::Opened(opening) => {
             let numbers = numbers_of(opening);
             write_row(out, &numbers)
         }
     }
+}
+
+// The line that vmd-list prints: the lenient manner.
+pub fn list_line(file: &[u8], scratch: &mut [u64], out: &mut [u8; LINE_SIZE]) -> usize
+    ensures { λ _. ⌜ now (out .exit) ≡ splice (now (out .entry)) 0 (line lenient (now (file .entry)) (length (now (scratch .entry)))) ⌝ }
+    ensures { λ r. ⌜ r ≡ length (line lenient (now (file .entry)) (length (now (scratch .entry)))) ⌝ }
+    ensures { λ _. ⌜ now (scratch .exit) ≡ line-scratch lenient (now (file .entry)) (now (scratch .entry)) ⌝ }
+{
+    write_line(file, VmdManner::Lenient, scratch, out)
 }

@@ -4,8 +4,9 @@ use native.Mathlib.Omega.{arith}
 use lib.ListN.{length, set, length-set}
 use borrow.Fn.Kinds.{In}
 use borrow.Fn.PlainCycle.{Measures, is, falls, and}
+use Rattle.vmd_bytes.specs.Written.{Wrote}
 use Rattle.vmd_line.specs.Line.{decimal}
-use Rattle.vmd_line.proofs.Laws.{decimal-short, Wrote, digit-one, digit-more}
+use Rattle.vmd_line.proofs.Laws.{decimal-short, digit-one, digit-more}
 use Rattle.vmd_line.proofs.write_decimal.Reads as write-decimal
 use Rattle.vmd_line.proofs.write_decimal.Kinds as write-decimal-kinds
 use Rattle.vmd_line.proofs.+write_decimal.Lts-write_decimal as write-decimal-lts
@@ -26,7 +27,7 @@ below t = and 1 write-decimal-kinds.ps (falls 1 write-decimal-kinds.ps _<_ μ-wr
 returns : (t : ℕ) → write-decimal-lts.Need-returns (digit-reads.Asked, digit-reads.Learnt, below t, write-decimal.Post) (at-measure t) write-decimal.Post
 returns t c =
     let w = digit-one _ _ _ (c .before .before .before .pre .1) (c .before .if1 .taken) in
-    (rw (c .digit .ensures) (w .list), (w .next, omega arith))
+    (rw (c .digit .ensures) w, omega arith)
 
 requires : (t : ℕ) → write-decimal-lts.Need-write-decimal-requires (digit-reads.Asked, digit-reads.Learnt, below t, write-decimal.Post) (at-measure t) write-decimal.Post
 requires t c κs = (omega (arith, c .before .before .before .pre .0), c .before .before .before .pre .1)
@@ -41,7 +42,7 @@ last : (t : ℕ) (c : write-decimal-lts.After-digit2 (digit-reads.Asked, digit-r
 last t c =
     let w = c .before .before .before in
     let s = w .before .before .before .before in
-    digit-more _ _ _ (s .pre .1) _ _ (s .fits .n .fits) (w .before .before .if1 .left) (w .write-decimal .ensures .0) (w .write-decimal .ensures .1 .0)
+    digit-more _ _ _ (s .pre .1) _ _ (s .fits .n .fits) (w .before .before .if1 .left) (w .write-decimal .ensures .0)
 
 store : (t : ℕ) → write-decimal-lts.Need-slice-write-out-2 (digit-reads.Asked, digit-reads.Learnt, below t, write-decimal.Post) (at-measure t) write-decimal.Post
 store t c = last t c .0
@@ -56,7 +57,7 @@ returns-2 : (t : ℕ) → write-decimal-lts.Need-returns-2 (digit-reads.Asked, d
 returns-2 t c =
     let s = c .before .before .before .before .before .before .before in
     let w = last t c .1 in
-    (rw (c .digit2 .ensures) (w .list), (w .next, omega (arith, w .next, decimal-short (s .args .n) (s .fits .n .fits))))
+    (rw (c .digit2 .ensures) w, omega (arith, w .ends, decimal-short (s .args .n) (s .fits .n .fits)))
 
 pub +write-decimal-spec : {M : Type 1} → statement M
 +write-decimal-spec =

@@ -12,8 +12,7 @@ returns c =
     let t = c .before .before in
     let d = t .before .before .before .before .before in
     let a = d .before .before .before .before in
-    refused-done _ _ _ _ _ _ _ _ (a .before .before .before .before .pre) (a .write-text .ensures .0) (a .write-text .ensures .1) (d .write-decimal .ensures .0)
-    (d .write-decimal .ensures .1 .0) (d .write-decimal .ensures .1 .1) (t .write-text2 .ensures .0) (t .write-text2 .ensures .1)
+    refused-done _ _ _ _ _ _ _ _ (a .before .before .before .before .pre) (a .write-text .ensures) (d .write-decimal .ensures .0) (d .write-decimal .ensures .1) (t .write-text2 .ensures)
 
 pub write-refused-spec : {M : Type 1} → statement M
 write-refused-spec =

@@ -5,9 +5,10 @@ use Prim.Native.Nat.{_+_, _*_, _-_, _≤_}
 use native.Mathlib.Omega.{arith}
 use lib.ListN.{length, length-set}
 use Rattle.vmd_bytes.specs.Slices.{part}
+use Rattle.vmd_bytes.specs.Written.{Wrote}
 use Rattle.vmd_bytes.proofs.Laws.{part-zero}
 use Rattle.vmd_line.specs.Line.{spaced}
-use Rattle.vmd_line.proofs.Laws.{Wrote, wrote-none, row-turn, row-done}
+use Rattle.vmd_line.proofs.Laws.{wrote-none, row-turn, row-done}
 use Rattle.vmd_line.proofs.write_row.Statement.{statement}
 use Rattle.vmd_line.proofs.write_row.Tie as tie
 
@@ -23,7 +24,7 @@ unfolding spaced
 loop-holds c =
     let w = c .before .before .write-decimal in
     let l : length (w .last .0) ≡ 256 = omega (arith, w .kept .0) in
-    (omega arith, omega arith, omega (arith, w .ensures .1 .1), l, l, rw part-zero (wrote-none _ _ (omega (arith, w .ensures .1 .1))))
+    (omega arith, omega arith, omega (arith, w .ensures .1), l, l, rw part-zero (wrote-none _ _))
 
 loop-again : tie.Need-loop-again Inv-loop μ-loop
 loop-again c =
@@ -31,14 +32,14 @@ loop-again c =
     let t = c .before .before .before .before .before in
     let inv = t .before .loop .inv in
     let n : length (t .before .before .before .before .before .before .before .before .before .args .numbers .now) ≡ 9 = omega arith in
-    let e : w .result + 1 ≤ 21 * (t .before .loop .i + 1) = omega (arith, w .ensures .1 .1) in
+    let e : w .result + 1 ≤ 21 * (t .before .loop .i + 1) = omega (arith, w .ensures .1) in
     let l : length (w .last .0) ≡ 256 = w .kept .0 ∙ simp length-set (inv .3) in (
       omega arith,
       omega arith,
       e,
       l,
       inv .4,
-      row-turn _ _ _ _ _ _ _ _ (omega arith) (omega arith) (inv .5) (omega arith) (w .ensures .0) (w .ensures .1 .0) (omega arith),
+      row-turn _ _ _ _ _ _ _ _ (omega arith) (omega arith) (inv .5) (omega arith) (w .ensures .0) (omega arith),
     )
 
 returns : tie.Need-returns Inv-loop μ-loop
@@ -48,9 +49,7 @@ returns c =
     let l = c .before .loop .inv in
     let n : length (s .before .before .before .before .before .args .numbers .now) ≡ 9 = omega arith in
     let i : c .before .loop .i - 1 ≡ 8 = omega arith in
-    let v : Wrote _ 0 _ _ _ = record { list = w .ensures .0; next = w .ensures .1 .0; room = omega (arith, w .ensures .1 .1) } in
-    let r = row-done _ _ _ _ _ _ n v (rw i at (l .5)) (omega arith) in
-    (r .list, omega (arith, r .next))
+    row-done _ _ _ _ _ _ n (w .ensures .0) (rw i at (l .5)) (omega arith)
 
 pub write-row-spec : {M : Type 1} → statement M
 write-row-spec =

@@ -7,7 +7,7 @@ use Rattle.vmd_line.proofs.write_text.Statement.{statement}
 use Rattle.vmd_line.proofs.write_text.Tie as tie
 
 returns : tie.Need-returns
-returns c = (c .before .before .copy-bytes .ensures ∙ ap (splice _ _) (part-all _), refl)
+returns c = record { holds = c .before .before .copy-bytes .ensures ∙ ap (splice _ _) (part-all _); ends = refl }
 
 pub write-text-spec : {M : Type 1} → statement M
 write-text-spec = tie.close (tie.spec (λ c κs. search needs) (λ c. search needs) (λ c. search needs) returns)
