@@ -20,7 +20,7 @@ cast-end : tie.Need-cast-end Inv-loop μ-loop
 cast-end c = omega (arith, c .shared-slice-known3 .given (c .before .before .loop .i))
 
 sub-name : tie.Need-sub-name Inv-loop μ-loop
-sub-name c = naming-fits (c .before .before .loop .inv) (omega arith) .0
+sub-name c = omega (arith, naming-fits (c .before .before .loop .inv) (omega arith))
 
 part-name-start : tie.Need-part-name-start Inv-loop μ-loop
 part-name-start c = omega (arith, naming-fits (c .before .before .loop .inv) (omega arith))
