@@ -10,9 +10,10 @@ use Rattle.vmd_format.specs.Parts.{passes, fails}
 use Rattle.vmd_base.specs.declared.VmdRefusal.the-variants.{NameUnfit}
 use Rattle.vmd_names.specs.declared.Check.the-variants.{Passes, Fails}
 use Rattle.vmd_names.specs.Meaning.{check-of}
-use Rattle.vmd_checks.specs.declared.Frames.the-variants.{NotWhole, Whole}
-use Rattle.vmd_checks.specs.Stages.{not-whole, whole}
-use Rattle.vmd_checks.specs.Meaning.{frames-of, parts-of}
+use Rattle.vmd_check_records.specs.declared.Frames.the-variants.{NotWhole, Whole}
+use Rattle.vmd_check_records.specs.Stages.{not-whole, whole}
+use Rattle.vmd_check_records.specs.Meaning.{frames-of}
+use Rattle.vmd_checks.specs.Meaning.{parts-of}
 
 pub the-parts :
     parts-of (1 ∷ []) (2 ∷ []) (3 ∷ []) (4 ∷ []) (5 ∷ []) (6 ∷ []) (7 ∷ []) (8 ∷ []) (9 ∷ []) (10 ∷ []) (11 ∷ []) (fin false 1 (pos 0) ∷ [])

@@ -17,7 +17,8 @@ use Rattle.vmd_format.specs.ReadLaws.{All}
 use Rattle.vmd_format.specs.SavingLaws.{Reads}
 use Rattle.vmd_format.specs.Parts.{Parts, take-of-parts, build}
 use Rattle.vmd_format.specs.PartsLaws.{Words, InRange, build-accepted}
-use Rattle.vmd_checks.specs.Meaning.{bits, parts-of}
+use Rattle.vmd_check_columns.specs.Meaning.{bits}
+use Rattle.vmd_checks.specs.Meaning.{parts-of}
 
 -- ---- definitions
 
