@@ -10,7 +10,7 @@ use std::hint::black_box;
 use std::process::Command;
 
 use calls::Call;
-use measure::{Other, median, seconds};
+use measure::{Other, after, median, seconds};
 use takes::{Kind, Material, Names};
 use vmd::Take;
 
@@ -133,6 +133,12 @@ impl Rounds {
     fn ratio(&self) -> Option<f64> {
         ratio(&self.call, &self.copy)
     }
+
+    /// The best speed of the copy of so many bytes.
+    fn copy_speed(&self, bytes: usize) -> String {
+        let best = self.copy.iter().copied().reduce(f64::min).unwrap();
+        format!("{:.1}", bytes as f64 / best / 1e9)
+    }
 }
 
 /// One time by another of the same round: the median, where there are rounds that have both.
@@ -248,13 +254,31 @@ fn growth(sizes: &[usize], other: &Other) {
             let mut case = Case::new(kind, Names::Padded, size);
             let times = case.times(Effort { original_rounds: 0, ..effort(size) }, other);
             let take = Take::open(&case.material.file).unwrap();
-            let copy = times.warm[Call::Open as usize].copy.iter().copied().reduce(f64::min).unwrap();
-            let speed = format!("{:.1}", case.material.file.len() as f64 / copy / 1e9);
+            let speed = times.warm[Call::Open as usize].copy_speed(case.material.file.len());
             let last = take.bones().max(take.morphs()) - 1;
             let cells = times.warm.iter().map(|rounds| cell(rounds.ratio()));
             let fetches = [0, last].map(|i| format!("{:.1}", fetch(&take, i) * 1e9));
             row([kind.name().into(), shown(size), speed].into_iter().chain(cells).chain(fetches));
         }
+    }
+}
+
+/// Takes that stay in the caches as far as they fit.
+fn repeated(size: usize) {
+    const RUNS: u32 = 8;
+    println!("\n## Over and over\n\nTakes of {}, names padded with zeros; call and copy after {RUNS} runs.", shown(size));
+    head(["take", "copy, GB/s"].into_iter().chain(Call::ALL.map(Call::name)));
+    for kind in Kind::ALL {
+        let mut case = Case::new(kind, Names::Padded, size);
+        let mut times: [Rounds; 4] = Default::default();
+        for _ in 0..effort(size).rounds {
+            for call in Call::ALL {
+                let copy = after(RUNS, 1, || case.copy(call));
+                times[call as usize].push(after(RUNS, 1, || case.run(call)), copy);
+            }
+        }
+        let speed = times[Call::Open as usize].copy_speed(case.material.file.len());
+        row([kind.name().into(), speed].into_iter().chain(times.iter().map(|rounds| cell(rounds.ratio()))));
     }
 }
 
@@ -352,6 +376,7 @@ fn main() {
     if !Original::BUILT.is_empty() {
         originals(full, &all);
     }
+    repeated(full);
     growth(&sizes, &other);
     memory(full);
 }

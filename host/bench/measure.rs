@@ -26,9 +26,9 @@ pub fn seconds(batch: u32, mut run: impl FnMut()) -> f64 {
     (cpu_seconds() - begun) / f64::from(batch)
 }
 
-/// The same on buffers just touched: by the same run.
-pub fn warm(batch: u32, mut run: impl FnMut()) -> f64 {
-    run();
+/// The same after so many runs on the same buffers.
+pub fn after(runs: u32, batch: u32, mut run: impl FnMut()) -> f64 {
+    (0..runs).for_each(|_| run());
     seconds(batch, run)
 }
 
