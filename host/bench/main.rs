@@ -2,9 +2,9 @@
 //! original Rust is measured beside where it is built in (feature `original`). Prints the tables of docs/PERFORMANCE.md.
 //!
 //! Times are the process's CPU time. A call and its copy are measured one after the other, each in the same state of the
-//! caches: other memory is read, twice as much as the last cache holds, and then it runs twice. The first run is cold, on
-//! buffers not touched since; the second is warm, on buffers just touched. In each round everything is measured once; a
-//! figure is the median over the rounds of the call's time by the copy's.
+//! caches: other memory is read, twice as much as the last cache holds, and then it runs several times. The first run is
+//! cold, on buffers not touched since; the last is warm, on buffers just touched. In each round everything is measured once;
+//! a figure is the median over the rounds of the call's time by the copy's.
 use std::fs;
 use std::hint::black_box;
 use std::process::Command;
@@ -92,7 +92,7 @@ impl Case {
                 times.warm[call as usize].push(time[1], copy[1]);
             }
             for &call in Original::BUILT.iter().filter(|_| round < effort.original_rounds) {
-                let [_, time] = other.cold_and_warm(effort.batch.div_ceil(8), || self.run_original(call));
+                let time = after(1, effort.batch.div_ceil(8), || self.run_original(call));
                 times.original[call as usize].push(time, times.warm[Call::Open as usize].copy[round as usize]);
             }
         }
@@ -112,7 +112,7 @@ fn effort(size: usize) -> Effort {
         0..=65_535 => Effort { rounds: 9, original_rounds: 9, batch: 2000 },
         65_536..=4_194_304 => Effort { rounds: 9, original_rounds: 9, batch: 8 },
         4_194_305..=67_108_864 => Effort { rounds: 25, original_rounds: 5, batch: 1 },
-        _ => Effort { rounds: 9, original_rounds: 3, batch: 1 },
+        _ => Effort { rounds: 5, original_rounds: 3, batch: 1 },
     }
 }
 
@@ -252,7 +252,7 @@ fn growth(sizes: &[usize], other: &Other) {
     for kind in Kind::ALL {
         for &size in sizes {
             let mut case = Case::new(kind, Names::Padded, size);
-            let times = case.times(Effort { original_rounds: 0, ..effort(size) }, other);
+            let times = case.times(Effort { rounds: effort(size).rounds.min(9), original_rounds: 0, ..effort(size) }, other);
             let take = Take::open(&case.material.file).unwrap();
             let speed = times.warm[Call::Open as usize].copy_speed(case.material.file.len());
             let last = take.bones().max(take.morphs()) - 1;
@@ -260,25 +260,6 @@ fn growth(sizes: &[usize], other: &Other) {
             let fetches = [0, last].map(|i| format!("{:.1}", fetch(&take, i) * 1e9));
             row([kind.name().into(), shown(size), speed].into_iter().chain(cells).chain(fetches));
         }
-    }
-}
-
-/// Takes that stay in the caches as far as they fit.
-fn repeated(size: usize) {
-    const RUNS: u32 = 8;
-    println!("\n## Over and over\n\nTakes of {}, names padded with zeros; call and copy after {RUNS} runs.", shown(size));
-    head(["take", "copy, GB/s"].into_iter().chain(Call::ALL.map(Call::name)));
-    for kind in Kind::ALL {
-        let mut case = Case::new(kind, Names::Padded, size);
-        let mut times: [Rounds; 4] = Default::default();
-        for _ in 0..effort(size).rounds {
-            for call in Call::ALL {
-                let copy = after(RUNS, 1, || case.copy(call));
-                times[call as usize].push(after(RUNS, 1, || case.run(call)), copy);
-            }
-        }
-        let speed = times[Call::Open as usize].copy_speed(case.material.file.len());
-        row([kind.name().into(), speed].into_iter().chain(times.iter().map(|rounds| cell(rounds.ratio()))));
     }
 }
 
@@ -376,7 +357,6 @@ fn main() {
     if !Original::BUILT.is_empty() {
         originals(full, &all);
     }
-    repeated(full);
     growth(&sizes, &other);
     memory(full);
 }
