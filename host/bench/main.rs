@@ -202,7 +202,10 @@ fn full_size(size: usize, other: &Other) -> Measured {
 
 fn originals(size: usize, all: &Measured) {
     println!("\n## The original Rust\n");
-    println!("Medians of {} rounds, each after one run, as multiples of a warm copy of the file.", effort(size).original_rounds);
+    println!(
+        "Medians of {} rounds, each after one run, as multiples of a warm copy of the file.",
+        effort(size).original_rounds
+    );
     head(["take", "names"].into_iter().chain(Original::ALL.map(Original::name)));
     for (kind, names, times) in all {
         let cells = times.original.iter().map(|rounds| cell(rounds.ratio()));
