@@ -3,7 +3,7 @@ use std::ffi::{CStr, CString, c_char, c_int, c_void};
 use std::mem;
 
 use crate::calls::Call;
-use crate::measure::{median, quarter, warm};
+use crate::measure::{after, median, quarter};
 use crate::takes::{Kind, Material, Names};
 use crate::{head, row, shown};
 
@@ -32,7 +32,7 @@ fn load(path: &str) -> Run {
 
 /// The time of a call by the new build, as a multiple of the old one's in the same round.
 fn ratios(call: Call, material: &Material, out: &mut [u8], [new, old]: [Run; 2], batch: u32) -> Vec<f64> {
-    let mut time = |run: Run| warm(batch, || run(call, material, out));
+    let mut time = |run: Run| after(1, batch, || run(call, material, out));
     let mut ratios = Vec::new();
     for round in 0..ROUNDS {
         let (new, old) = if round % 2 == 0 {

@@ -2,15 +2,15 @@
 //! original Rust is measured beside where it is built in (feature `original`). Prints the tables of docs/PERFORMANCE.md.
 //!
 //! Times are the process's CPU time. A call and its copy are measured one after the other, each in the same state of the
-//! caches: other memory is read, twice as much as the last cache holds, and then it runs twice. The first run is cold, on
-//! buffers not touched since; the second is warm, on buffers just touched. In each round everything is measured once; a
-//! figure is the median over the rounds of the call's time by the copy's.
+//! caches: other memory is read, twice as much as the last cache holds, and then it runs several times. The first run is
+//! cold, on buffers not touched since; the last is warm, on buffers just touched. In each round everything is measured once;
+//! a figure is the median over the rounds of the call's time by the copy's.
 use std::fs;
 use std::hint::black_box;
 use std::process::Command;
 
 use calls::Call;
-use measure::{Other, median, seconds};
+use measure::{Other, after, median, seconds};
 use takes::{Kind, Material, Names};
 use vmd::Take;
 
@@ -92,7 +92,7 @@ impl Case {
                 times.warm[call as usize].push(time[1], copy[1]);
             }
             for &call in Original::BUILT.iter().filter(|_| round < effort.original_rounds) {
-                let [_, time] = other.cold_and_warm(effort.batch.div_ceil(8), || self.run_original(call));
+                let time = after(1, effort.batch.div_ceil(8), || self.run_original(call));
                 times.original[call as usize].push(time, times.warm[Call::Open as usize].copy[round as usize]);
             }
         }
@@ -112,7 +112,7 @@ fn effort(size: usize) -> Effort {
         0..=65_535 => Effort { rounds: 9, original_rounds: 9, batch: 2000 },
         65_536..=4_194_304 => Effort { rounds: 9, original_rounds: 9, batch: 8 },
         4_194_305..=67_108_864 => Effort { rounds: 25, original_rounds: 5, batch: 1 },
-        _ => Effort { rounds: 9, original_rounds: 3, batch: 1 },
+        _ => Effort { rounds: 5, original_rounds: 3, batch: 1 },
     }
 }
 
@@ -132,6 +132,12 @@ impl Rounds {
     /// The call by its copy.
     fn ratio(&self) -> Option<f64> {
         ratio(&self.call, &self.copy)
+    }
+
+    /// The best speed of the copy of so many bytes.
+    fn copy_speed(&self, bytes: usize) -> String {
+        let best = self.copy.iter().copied().reduce(f64::min).unwrap();
+        format!("{:.1}", bytes as f64 / best / 1e9)
     }
 }
 
@@ -196,7 +202,10 @@ fn full_size(size: usize, other: &Other) -> Measured {
 
 fn originals(size: usize, all: &Measured) {
     println!("\n## The original Rust\n");
-    println!("Medians of {} rounds, as multiples of a warm copy of the file.", effort(size).original_rounds);
+    println!(
+        "Medians of {} rounds, each after one run, as multiples of a warm copy of the file.",
+        effort(size).original_rounds
+    );
     head(["take", "names"].into_iter().chain(Original::ALL.map(Original::name)));
     for (kind, names, times) in all {
         let cells = times.original.iter().map(|rounds| cell(rounds.ratio()));
@@ -246,10 +255,9 @@ fn growth(sizes: &[usize], other: &Other) {
     for kind in Kind::ALL {
         for &size in sizes {
             let mut case = Case::new(kind, Names::Padded, size);
-            let times = case.times(Effort { original_rounds: 0, ..effort(size) }, other);
+            let times = case.times(Effort { rounds: effort(size).rounds.min(9), original_rounds: 0, ..effort(size) }, other);
             let take = Take::open(&case.material.file).unwrap();
-            let copy = times.warm[Call::Open as usize].copy.iter().copied().reduce(f64::min).unwrap();
-            let speed = format!("{:.1}", case.material.file.len() as f64 / copy / 1e9);
+            let speed = times.warm[Call::Open as usize].copy_speed(case.material.file.len());
             let last = take.bones().max(take.morphs()) - 1;
             let cells = times.warm.iter().map(|rounds| cell(rounds.ratio()));
             let fetches = [0, last].map(|i| format!("{:.1}", fetch(&take, i) * 1e9));

@@ -26,9 +26,9 @@ pub fn seconds(batch: u32, mut run: impl FnMut()) -> f64 {
     (cpu_seconds() - begun) / f64::from(batch)
 }
 
-/// The same on buffers just touched: by the same run.
-pub fn warm(batch: u32, mut run: impl FnMut()) -> f64 {
-    run();
+/// The same after so many runs on the same buffers.
+pub fn after(runs: u32, batch: u32, mut run: impl FnMut()) -> f64 {
+    (0..runs).for_each(|_| run());
     seconds(batch, run)
 }
 
@@ -42,10 +42,11 @@ impl Other {
         Other(vec![1; 2 * cache]) // ones: the system would lend one page of zeros for all
     }
 
-    /// Seconds for a run on buffers not touched since all of the other memory was read, and for each of so many right after.
+    /// Seconds for a run on buffers not touched since all of the other memory was read, and for each of so many on buffers
+    /// that some runs have touched since. A single run leaves little of a large take in the caches.
     pub fn cold_and_warm(&self, batch: u32, mut run: impl FnMut()) -> [f64; 2] {
         black_box(self.0.iter().step_by(64).fold(0, |sum: u8, byte| sum.wrapping_add(*byte)));
-        [seconds(1, &mut run), seconds(batch, run)]
+        [seconds(1, &mut run), after(6, batch, run)]
     }
 }
 
