@@ -1,5 +1,5 @@
 -- `vmd_export::joined_model` meets its contract. Assumes nothing.
-use mathlib.Core.Path.{sym, ap, _∙_}
+use mathlib.Core.Path.{ap, _∙_}
 use native.Mathlib.Omega.{arith}
 use borrow.Author.Needs.{needs}
 use lib.ListN.{length}
@@ -10,7 +10,7 @@ use Rattle.vmd_export.proofs.joined_model.Tie as tie
 returns : tie.Need-returns
 returns c =
     let m = c .before .before in
-    c .model-name2 .ensures ∙ model-other _ _ (ap length (sym (m .model-name .ensures)) ∙ c .before .if1 .taken)
+    c .model-name2 .ensures ∙ model-other _ _ (omega (arith, ap length (m .model-name .ensures)))
 
 returns-2 : tie.Need-returns-2
 returns-2 c = c .before .model-name .ensures ∙ model-kept _ _ (omega (arith, ap length (c .before .model-name .ensures)))
