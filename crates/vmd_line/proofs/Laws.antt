@@ -6,7 +6,7 @@ use mathlib.Core.List.{List, [], _∷_, _++_, append-assoc, append-nil}
 use native.Mathlib.Nat.{pow-suc, lt-trans}
 use native.Mathlib.Omega.{arith}
 use borrow.Author.Tests.{lt-ltb, le-ltb, ltb-true, ltb-false, le-leb, lt-leb}
-use lib.Dec.{ltb, leb, lit<}
+use lib.Dec.{ltb, lit<}
 use lib.ListN.{length, getD, set, take, length-append}
 use lib.Seq.{take-all, length-take-le}
 use Rattle.vmd_format.specs.Refusal.{Refusal, number}
@@ -35,11 +35,11 @@ digits-enough (suc f) (suc g) n h k = ap (λ l. l ++ ((48 + n % 10) ∷ [])) (go
     go false e r = let l = ltb-false n 10 e in r (omega arith) (omega arith)
 
 -- one digit, and a digit more
-pub decimal-one : (n : ℕ) → n < 10 → decimal n ≡ (48 + n % 10) ∷ []
+decimal-one : (n : ℕ) → n < 10 → decimal n ≡ (48 + n % 10) ∷ []
 unfolding decimal digits tens-if
 decimal-one n h = rw (lt-ltb n 10 h)
 
-pub decimal-more : (n : ℕ) → 10 ≤ n → decimal n ≡ decimal (n / 10) ++ ((48 + n % 10) ∷ [])
+decimal-more : (n : ℕ) → 10 ≤ n → decimal n ≡ decimal (n / 10) ++ ((48 + n % 10) ∷ [])
 unfolding decimal digits tens-if
 decimal-more n h = rw (le-ltb n 10 h) (ap (λ l. l ++ ((48 + n % 10) ∷ [])) (digits-enough n (suc (n / 10)) (n / 10) (omega arith) (omega arith)))
 
@@ -68,17 +68,17 @@ front-fits l vs m r e n =
     (h, sym (length-take-le r m h))
 
 module _ {l u m : List ℕ} {to at : ℕ} (w : Wrote l to u m at) where
-  pub wrote-length : at ≤ length l → length m ≡ length l
+  wrote-length : at ≤ length l → length m ≡ length l
   wrote-length h = rw (w .holds) (length-splice l to u (omega (arith, w .ends)))
 
   -- a write where another ends
-  pub wrote-more : {v k : List ℕ} {end : ℕ} → Wrote m at v k end → end ≤ length l → Wrote l to (u ++ v) k end
+  wrote-more : {v k : List ℕ} {end : ℕ} → Wrote m at v k end → end ≤ length l → Wrote l to (u ++ v) k end
   wrote-more {v} x h =
       let r : Room l to (u ++ v) = record { room = omega (arith, length-append u v, w .ends, x .ends) } in
       rest-done (rest-then v (rest-all r) w) x
 
   -- a store there
-  pub wrote-byte : (a : ℕ) → at < length l → Wrote l to (u ++ (a ∷ [])) (set m at a) (at + 1)
+  wrote-byte : (a : ℕ) → at < length l → Wrote l to (u ++ (a ∷ [])) (set m at a) (at + 1)
   wrote-byte a h = wrote-more (record { holds = set-splice m at a (rw (wrote-length (omega arith)) h); ends = refl }) (omega arith)
 
 -- nothing written yet

@@ -36,7 +36,7 @@ pub self-shadow-size : self-shadow .size ≡ 9
 unfolding self-shadow as-record _⊗_ number byte
 self-shadow-size = refl
 
-pub ik-size : ik-state .size ≡ 21
+ik-size : ik-state .size ≡ 21
 unfolding ik-state as-record _⊗_ name flag
 ik-size = refl
 

@@ -33,7 +33,7 @@ module _ (size : ℕ) (p : Part) (i : ℕ) (s : List ℕ) where
   unfolding record-place unless
   place-found h l = rw (lt-ltb i (p .count) h, le-leb (p .place + i * size + size) (length s) l)
 
-  pub place-ends : (at : ℕ) → record-place size p i s ≡ given at → at + size ≤ length s
+  place-ends : (at : ℕ) → record-place size p i s ≡ given at → at + size ≤ length s
   unfolding record-place unless
   place-ends at e = go (ltb i (p .count)) (leb (p .place + i * size + size) (length s)) refl e
     where
@@ -74,7 +74,7 @@ module _ (p : Part) (scratch : List ℕ) (i : ℕ) (s : List ℕ) where
       go true false q e = let z : _≡_ {A = ℕ} 0 1 = cc in absurd (omega arith)
       go false c q e = let z : _≡_ {A = ℕ} 0 1 = cc in absurd (omega arith)
 
-  pub ik-ends : (j at : ℕ) → ik-place p scratch i j s ≡ given at → at + 21 ≤ length s
+  ik-ends : (j at : ℕ) → ik-place p scratch i j s ≡ given at → at + 21 ≤ length s
   unfolding ik-place and-then
   ik-ends j at e = go (property-place p scratch i s) e
     where

@@ -1,6 +1,6 @@
 -- Laws of fetching and of opening, for code. Assumes nothing.
 use Prim.Native.Nat.{ℕ, _≤_, _<_}
-use mathlib.Core.Path.{_≡_, refl, ap, sym, _∙_}
+use mathlib.Core.Path.{_≡_, refl, ap, _∙_}
 use mathlib.Core.List.{List, _++_}
 use native.Mathlib.Nat.{add-zero, zero-add}
 use borrow.Author.Tests.{le-leb, lt-leb}
@@ -14,7 +14,7 @@ use Rattle.vmd_format.specs.Opening.{Part, Scan, open-file, scratch-if, scratch
 use Rattle.vmd_format.specs.Places.{scan-file, frame-places, scan-largest, open-scan, scan-scratch}
 use Rattle.vmd_format.specs.OpeningLaws.{open-by-places, scratch-by-places}
 use Rattle.vmd_format.specs.FetchLaws.{places-length}
-use Rattle.vmd_format.specs.Fetch.{record-place, fetch, PropertyHead, property-place, property-at, fetch-property, fetch-ik-state}
+use Rattle.vmd_format.specs.Fetch.{record-place, fetch, property-place, property-at, fetch-property, fetch-ik-state}
 use Rattle.vmd_format.specs.Records.{ik-state}
 use Rattle.vmd_places.specs.Meaning.{ik-place}
 use Rattle.vmd_places.proofs.Fields.{ik-is}

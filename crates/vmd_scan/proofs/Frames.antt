@@ -1,8 +1,8 @@
 -- Laws of the pass over a file's frames: a turn of its loops, and what each of its figures is. Assumes nothing.
 use Prim.Native.Nat.{ℕ, zero, suc, _+_, _-_, _≤_, _<_, max}
-use mathlib.Core.Path.{_≡_, refl, sym, _∙_}
+use mathlib.Core.Path.{_≡_, sym, _∙_}
 use mathlib.Core.List.{List}
-use native.Mathlib.Nat.{add-zero, sub-zero, max-zero, zero-max}
+use native.Mathlib.Nat.{add-zero, max-zero, zero-max}
 use native.Mathlib.Omega.{arith}
 use lib.ListN.{drop}
 use lib.Seq.{drop-drop}

@@ -1,24 +1,23 @@
 -- Laws of scanning: its steps make the format's scan, turns of the loops over frames, and what callers know of a scan. Assumes nothing.
-use Prim.Native.Nat.{ℕ, zero, suc, _+_, _*_, _-_, _≤_, _<_, max}
+use Prim.Native.Nat.{ℕ, suc, _+_, _*_, _-_, _≤_, _<_}
 use mathlib.Core.Path.{_≡_, refl, sym, ap, _∙_}
 use mathlib.Core.Bool.{Bool, true, false}
 use mathlib.Core.List.{List, [], _∷_, _++_, append-assoc}
-use native.Mathlib.Nat.{max-zero, mul-le-mul-left}
+use native.Mathlib.Nat.{mul-le-mul-left}
 use native.Mathlib.Numerals.{add-one}
 use native.Mathlib.Omega.{arith}
 use borrow.Author.Tests.{le-leb, lt-leb}
 use lib.Dec.{leb}
 use lib.ListN.{length, take, drop, set, take-append-drop}
-use lib.Seq.{drop-drop, take-suc-set, drop-set-lt}
+use lib.Seq.{take-suc-set, drop-set-lt}
 use Rattle.vmd_format.specs.Bytes.{u32}
 use Rattle.vmd_format.specs.Refusal.{Refusal, file-ends-early}
 use Rattle.vmd_format.specs.Answer.{Answer, declined, given, and-then, map-answer}
-use Rattle.vmd_format.specs.Read.{Step, refused, got, Oversized, refuse, Manner}
-use Rattle.vmd_format.specs.Take.{File, header, read-file, sections}
+use Rattle.vmd_format.specs.Read.{refused, Oversized, refuse, Manner}
+use Rattle.vmd_format.specs.Take.{header, sections}
 use Rattle.vmd_format.specs.Fetch.{model-of}
-use Rattle.vmd_format.specs.Opening.{Scan}
-use Rattle.vmd_format.specs.Places.{header-place, HeaderPlaces, header-places, Span, part-in, no-span, records-span, count-span, span, optional-if, optional-span, Walk, walk-on, walk, scan-sections, scan-file, largest-of, next-frame, largest-frame-of, frame-places, Reaches}
-use Rattle.vmd_format.specs.PlacesLaws.{Holds, Within, optional-within, Frame, frame-span, walk-next}
+use Rattle.vmd_format.specs.Places.{header-place, HeaderPlaces, header-places, Span, part-in, no-span, records-span, count-span, span, optional-if, optional-span, walk, scan-sections, next-frame, frame-places, Reaches}
+use Rattle.vmd_format.specs.PlacesLaws.{Holds, Within, optional-within, walk-next}
 use Rattle.vmd_format.specs.ScanLaws.{Headed, headed, no-model}
 use Rattle.vmd_places.specs.Parts.{file-part, Cuts, name-in}
 use Rattle.vmd_places.proofs.Parts.{front-name, no-bytes, front-cuts}

@@ -1,5 +1,4 @@
 -- What the types of the code mean in the terms of the format, by cases. Definitions only.
-use Prim.Native.Nat.{ℕ}
 use Rattle.vmd_base.specs.Meaning.{refusal-of, part-is}
 use Rattle.vmd_format.specs.Answer.{Answer, declined, given}
 use Rattle.vmd_format.specs.Read as format

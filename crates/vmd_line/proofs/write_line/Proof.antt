@@ -4,7 +4,7 @@ use borrow.Author.Needs.{needs}
 use lib.ListN.{length}
 use Rattle.vmd_format.specs.InsideLaws.{opened-few}
 use Rattle.vmd_reader.specs.Meaning.{opening-answer}
-use Rattle.vmd_line.specs.Line.{too-long, numbers, row, refused-line}
+use Rattle.vmd_line.specs.Line.{too-long, numbers}
 use Rattle.vmd_line.proofs.Laws.{line-long, line-refused, line-opened, scratch-long, scratch-short}
 use Rattle.vmd_line.proofs.write_line.Statement.{statement}
 use Rattle.vmd_line.proofs.write_line.Tie as tie

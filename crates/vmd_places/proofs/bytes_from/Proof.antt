@@ -1,6 +1,5 @@
 -- `vmd_places::bytes_from` meets its contract. Assumes nothing.
 use mathlib.Core.Path.{sym}
-use native.Mathlib.Omega.{arith}
 use borrow.Author.Needs.{needs}
 use Rattle.vmd_places.proofs.Places.{past-the-end, from-there}
 use Rattle.vmd_places.proofs.bytes_from.Statement.{statement}

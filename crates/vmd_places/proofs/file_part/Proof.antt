@@ -1,5 +1,4 @@
 -- `vmd_places::file_part` meets its contract. Assumes nothing.
-use native.Mathlib.Omega.{arith}
 use Rattle.vmd_places.proofs.Parts.{part-none, part-some}
 use Rattle.vmd_places.proofs.file_part.Statement.{statement}
 use Rattle.vmd_places.proofs.file_part.Tie as tie

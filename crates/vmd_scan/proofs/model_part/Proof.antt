@@ -1,8 +1,7 @@
 -- `vmd_scan::model_part` meets its contract. Assumes nothing.
 use mathlib.Core.Path.{sym, ap, _∙_}
 use borrow.Author.Needs.{needs}
-use lib.ListN.{length}
-use Rattle.vmd_places.specs.Parts.{file-part, name-in}
+use Rattle.vmd_places.specs.Parts.{name-in}
 use Rattle.vmd_scan.specs.Meaning.{header-answer}
 use Rattle.vmd_scan.proofs.Laws.{name-begins, header-headed, no-part}
 use Rattle.vmd_scan.proofs.model_part.Statement.{statement}
