@@ -131,6 +131,6 @@ pub fn write_property_section(
     ensures { λ r. ⌜ Wrote (now (out .entry)) to (write-counted property (frames-of (now (first .entry)) (part-is a) (now (second .entry)) (part-is b))) (now (out .exit)) r ⌝ }
 {
     let p = write_count(out, to, a.count + b.count);
-    let q = vmd_writers::write_properties(out, p, first, a.place, a.count as usize);
-    vmd_writers::write_properties(out, q, second, b.place, b.count as usize)
+    let q = vmd_write_properties::write_properties(out, p, first, a.place, a.count as usize);
+    vmd_write_properties::write_properties(out, q, second, b.place, b.count as usize)
 }

@@ -128,7 +128,7 @@ fn write_property_section(out: &mut [u8], to: usize, src: &[u8]) -> usize
 {
     let n = vmd_check_records::property_count(src);
     let p = vmd_output::write_count(out, to, n as u32);
-    vmd_writers::write_properties(out, p, src, 0, n)
+    vmd_write_properties::write_properties(out, p, src, 0, n)
 }
 
 // The header, the bones and the morphs. The result is the place after them.

@@ -1,12 +1,12 @@
--- `vmd_writers::write_ik_states` meets its contract. Assumes nothing.
+-- `vmd_write_properties::write_ik_states` meets its contract. Assumes nothing.
 use native.Mathlib.Omega.{arith}
 use lib.ListN.{drop}
 use Rattle.vmd_format.specs.Read.{table, write-all}
 use Rattle.vmd_format.specs.Records.{ik-state}
 use Rattle.vmd_format.specs.SizedLaws.{ik-state-sized}
 use Rattle.vmd_writers.proofs.Records.{Going, going-start, going-turn, going-end}
-use Rattle.vmd_writers.proofs.write_ik_states.Statement.{statement}
-use Rattle.vmd_writers.proofs.write_ik_states.Tie as tie
+use Rattle.vmd_write_properties.proofs.write_ik_states.Statement.{statement}
+use Rattle.vmd_write_properties.proofs.write_ik_states.Tie as tie
 
 abbrev Inv-loop : tie.InvT-loop
 Inv-loop out₀ to src at n p₀ q₀ states₀ out p q states = Going ik-state 21 src out₀ to (write-all (ik-state .encode) (table ik-state n (drop at src))) out p q states

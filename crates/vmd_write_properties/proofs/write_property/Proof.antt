@@ -1,4 +1,4 @@
--- `vmd_writers::write_property` meets its contract. Assumes nothing.
+-- `vmd_write_properties::write_property` meets its contract. Assumes nothing.
 use native.Mathlib.Omega.{arith}
 use borrow.Author.Needs.{needs}
 use lib.ListN.{drop, length-set}
@@ -6,10 +6,10 @@ use Prim.Native.Nat.{_+_}
 use denote.Ref.{now}
 use Rattle.vmd_format.specs.SizedLaws.{ik-state-sized}
 use Rattle.vmd_format.specs.Places.{next-frame}
-use Rattle.vmd_writers.proofs.Properties.{frame-written}
+use Rattle.vmd_write_properties.proofs.Properties.{frame-written}
 use Rattle.vmd_writers.proofs.Records.{room-section}
-use Rattle.vmd_writers.proofs.write_property.Statement.{statement}
-use Rattle.vmd_writers.proofs.write_property.Tie as tie
+use Rattle.vmd_write_properties.proofs.write_property.Statement.{statement}
+use Rattle.vmd_write_properties.proofs.write_property.Tie as tie
 
 write-u32-le-requires-2 : tie.Need-write-u32-le-requires-2
 unfolding next-frame

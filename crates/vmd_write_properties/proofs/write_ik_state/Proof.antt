@@ -1,13 +1,13 @@
--- `vmd_writers::write_ik_state` meets its contract: the name, and then the flag. Assumes nothing.
+-- `vmd_write_properties::write_ik_state` meets its contract: the name, and then the flag. Assumes nothing.
 use native.Mathlib.Omega.{arith}
 use denote.Ref.{now}
 use borrow.Author.Needs.{needs}
 use Rattle.vmd_format.specs.Bytes.{before-zero, padded, is-set, flag-byte}
 use Rattle.vmd_format.specs.BytesLaws.{padded-length}
 use Rattle.vmd_format.specs.Rewriting.{ik-state-rewrites}
 use Rattle.vmd_writers.proofs.Records.{flagged}
-use Rattle.vmd_writers.proofs.write_ik_state.Statement.{statement}
-use Rattle.vmd_writers.proofs.write_ik_state.Tie as tie
+use Rattle.vmd_write_properties.proofs.write_ik_state.Statement.{statement}
+use Rattle.vmd_write_properties.proofs.write_ik_state.Tie as tie
 
 returns : tie.Need-returns
 returns c =

@@ -1,12 +1,12 @@
--- `vmd_writers::write_properties` meets its contract. Assumes nothing.
+-- `vmd_write_properties::write_properties` meets its contract. Assumes nothing.
 use native.Mathlib.Omega.{arith}
 use Rattle.vmd_format.specs.Take.{property}
 use Rattle.vmd_format.specs.Read.{write-all}
 use Rattle.vmd_format.specs.PlacesLaws.{frames-in}
 use Rattle.vmd_format.specs.Places.{next-frame}
-use Rattle.vmd_writers.proofs.Properties.{Walking, walking-start, walking-lies, walking-room, walking-turn, walking-end}
-use Rattle.vmd_writers.proofs.write_properties.Statement.{statement}
-use Rattle.vmd_writers.proofs.write_properties.Tie as tie
+use Rattle.vmd_write_properties.proofs.Properties.{Walking, walking-start, walking-lies, walking-room, walking-turn, walking-end}
+use Rattle.vmd_write_properties.proofs.write_properties.Statement.{statement}
+use Rattle.vmd_write_properties.proofs.write_properties.Tie as tie
 
 abbrev Inv-loop : tie.InvT-loop
 Inv-loop out₀ to src at n p₀ q₀ frames₀ out p q frames = Walking src out₀ to (write-all (property .write) (frames-in src n at)) out p q frames
