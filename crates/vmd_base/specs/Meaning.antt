@@ -1,7 +1,7 @@
 -- What the types of the code mean in the terms of the format, by cases. Definitions only.
 use Rattle.vmd_format.specs.Refusal.{Refusal, file-ends-early, magic-differs, scratch-too-short, outside, parts-not-whole, name-unfit, name-not-good, not-finite, self-shadow-unfit, columns-disagree, count-too-large, name-index-too-large, output-too-short}
 use Rattle.vmd_format.specs.Read.{Manner, lenient}
-use Rattle.vmd_format.specs.Opening.{Part}
+use Rattle.vmd_format.specs.Opening.{Extent}
 use Rattle.vmd_base.specs.declared.VmdRefusal.{VmdRefusal}
 use Rattle.vmd_base.specs.declared.VmdRefusal.the-variants.{FileEndsEarly, MagicDiffers, ScratchTooShort, Outside, PartsNotWhole, NameUnfit, NameNotGood, NotFinite, SelfShadowUnfit, ColumnsDisagree, CountTooLarge, NameIndexTooLarge, OutputTooShort}
 use Rattle.vmd_base.specs.declared.VmdManner.{VmdManner}
@@ -26,5 +26,5 @@ refusal-of OutputTooShort = output-too-short
 abbrev pub manner-of : VmdManner → Manner
 manner-of Lenient = lenient
 
-abbrev pub part-is : VmdSection → Part
-part-is x = record { count = x .count; place = x .place }
+abbrev pub extent-is : VmdSection → Extent
+extent-is x = record { count = x .count; place = x .place }

@@ -11,7 +11,7 @@ use lib.Bits.{bitAnd, bitOr, bitXor, and-block, or-block, xor-block, and-le-r, o
 use lib.ListN.{length, drop, getD, replicate}
 use borrow.Author.Tests.{ne-eqb}
 use Rattle.vmd_format.specs.Bytes.{u32, u32-bytes}
-use Rattle.vmd_bytes.specs.Slices.{part}
+use Rattle.vmd_bytes.specs.Slices.{run}
 use Rattle.vmd_bytes.specs.Fields.{no-zero, canonical}
 use Rattle.vmd_bytes.specs.Words.{digits, repeated, zeros, up-to}
 use Rattle.vmd_bytes.proofs.Laws.{part-cons, part-zero, u32-drop, canonical-nil, canonical-zero, canonical-suc}
@@ -34,12 +34,12 @@ split : (x : ℕ) → x ≡ x / 256 * 256 + x % 256
 split x = sym (div-add-mod' x 256)
 
 -- one byte more in front of the bytes that are read
-byte-more : (s : List ℕ) (at n v : ℕ) → at < length s → getD s at 0 < 256 → digits n v ≡ part s (at + 1) n → digits (suc n) (v * 256 + getD s at 0) ≡ part s at (suc n)
+byte-more : (s : List ℕ) (at n v : ℕ) → at < length s → getD s at 0 < 256 → digits n v ≡ run s (at + 1) n → digits (suc n) (v * 256 + getD s at 0) ≡ run s at (suc n)
 byte-more s at n v h lt e = digits-block n v (getD s at 0) lt ∙ rw e (sym (part-cons s at n h))
 
 -- a number of four bytes in front of the bytes that are read
-u32-more : (s : List ℕ) (at n v : ℕ) → at + 4 ≤ length s → ((k : ℕ) → getD s k 0 < 256) → digits n v ≡ part s (at + 4) n
-    → digits (suc (suc (suc (suc n)))) (u32 (drop at s) + 4294967296 * v) ≡ part s at (suc (suc (suc (suc n))))
+u32-more : (s : List ℕ) (at n v : ℕ) → at + 4 ≤ length s → ((k : ℕ) → getD s k 0 < 256) → digits n v ≡ run s (at + 4) n
+    → digits (suc (suc (suc (suc n)))) (u32 (drop at s) + 4294967296 * v) ≡ run s at (suc (suc (suc (suc n))))
 u32-more s at n v h lt e =
     let p₂ : at + 1 + 1 ≡ at + 2 = omega arith in
     let p₃ : at + 2 + 1 ≡ at + 3 = omega arith in
@@ -55,15 +55,15 @@ u32-more s at n v h lt e =
     (rw p₃ (byte-more s (at + 3) n v (omega arith) (lt (at + 3)) (rw p₄ e)))))))
 
 -- the bytes of a number that is read
-digits-u32 : (s : List ℕ) (at : ℕ) → at + 4 ≤ length s → ((k : ℕ) → getD s k 0 < 256) → digits 4 (u32 (drop at s)) ≡ part s at 4
+digits-u32 : (s : List ℕ) (at : ℕ) → at + 4 ≤ length s → ((k : ℕ) → getD s k 0 < 256) → digits 4 (u32 (drop at s)) ≡ run s at 4
 unfolding digits
 digits-u32 s at h lt = ap (digits 4) (sym (add-zero (u32 (drop at s)))) ∙ u32-more s at 0 0 h lt (none 0 (at + 4))
   where
-    none : (v p : ℕ) → digits 0 v ≡ part s p 0
+    none : (v p : ℕ) → digits 0 v ≡ run s p 0
     none v p = sym (part-zero s p)
 
 -- two numbers of four bytes are a word
-pub word-of : (s : List ℕ) (at : ℕ) → at + 8 ≤ length s → ((k : ℕ) → getD s k 0 < 256) → digits 8 (u32 (drop at s) + 4294967296 * u32 (drop (at + 4) s)) ≡ part s at 8
+pub word-of : (s : List ℕ) (at : ℕ) → at + 8 ≤ length s → ((k : ℕ) → getD s k 0 < 256) → digits 8 (u32 (drop at s) + 4294967296 * u32 (drop (at + 4) s)) ≡ run s at 8
 word-of s at h lt = u32-more s at 4 (u32 (drop (at + 4) s)) (omega arith) lt (digits-u32 s (at + 4) (omega arith) lt)
 
 -- four bytes and the rest of a number

@@ -8,5 +8,5 @@ unfoldable pub splice : List ℕ → ℕ → List ℕ → List ℕ
 splice l at vs = take at l ++ vs ++ drop (at + length vs) l
 
 -- the n elements of l from index at on
-unfoldable pub part : List ℕ → ℕ → ℕ → List ℕ
-part l at n = take n (drop at l)
+unfoldable pub run : List ℕ → ℕ → ℕ → List ℕ
+run l at n = take n (drop at l)

@@ -9,7 +9,7 @@ ghost use lib.Ieee.{binary32, ofBits, toBits};
 ghost use Rattle.vmd_format.specs.Bytes.{u32, u32-bytes, before-zero, padded, is-set, flag-byte, is-zero, inverted-byte};
 ghost use Rattle.vmd_format.specs.Take.{same};
 ghost use Rattle.vmd_format.specs.Parts.{finite};
-ghost use Rattle.vmd_bytes.specs.Slices.{splice, part};
+ghost use Rattle.vmd_bytes.specs.Slices.{splice, run};
 ghost use Rattle.vmd_bytes.specs.Fields.{no-zero, canonical};
 ghost use Rattle.vmd_bytes.specs.Words.{digits, zeros, up-to};
 
@@ -56,7 +56,7 @@ pub fn larger(a: u32, b: u32) -> u32
 // Copies the n bytes of src from `at` on into out from `to` on.
 pub fn copy_bytes(src: &[u8], at: usize, out: &mut [u8], to: usize, n: usize)
     requires { ⌜ (at + n ≤ length (now src)) × (to + n ≤ length (now out)) ⌝ }
-    ensures { λ _. ⌜ now (out .exit) ≡ splice (now (out .entry)) to (part (now (src .entry)) at n) ⌝ }
+    ensures { λ _. ⌜ now (out .exit) ≡ splice (now (out .entry)) to (run (now (src .entry)) at n) ⌝ }
 {
     let mut i = 0;
     while i < n {
@@ -80,7 +80,7 @@ pub fn fill_zeros(out: &mut [u8], to: usize, n: usize)
 // The eight bytes from `at` on as one number. The compiler makes them one load.
 pub fn word_at(src: &[u8], at: usize) -> u64
     requires { ⌜ at + 8 ≤ length (now src) ⌝ }
-    ensures { λ r. ⌜ digits 8 r ≡ part (now (src .entry)) at 8 ⌝ }
+    ensures { λ r. ⌜ digits 8 r ≡ run (now (src .entry)) at 8 ⌝ }
 {
     let low = read_u32_le(src, at);
     let high = read_u32_le(src, at + 4);
@@ -99,7 +99,7 @@ pub fn put_word(out: &mut [u8], at: usize, v: u64)
 // Copies eight bytes.
 pub fn copy_word(src: &[u8], at: usize, out: &mut [u8], to: usize)
     requires { ⌜ (at + 8 ≤ length (now src)) × (to + 8 ≤ length (now out)) ⌝ }
-    ensures { λ _. ⌜ now (out .exit) ≡ splice (now (out .entry)) to (part (now (src .entry)) at 8) ⌝ }
+    ensures { λ _. ⌜ now (out .exit) ≡ splice (now (out .entry)) to (run (now (src .entry)) at 8) ⌝ }
 {
     let x = word_at(src, at);
     put_word(out, to, x);
@@ -203,7 +203,7 @@ fn kept(live: bool, b: u8) -> u8
 // Writes n bytes of a name field in canonical form, byte by byte. live: the name has not ended before them.
 fn write_name_end(src: &[u8], at: usize, out: &mut [u8], to: usize, n: usize, live: bool)
     requires { ⌜ (at + n ≤ length (now src)) × (to + n ≤ length (now out)) ⌝ }
-    ensures { λ _. ⌜ now (out .exit) ≡ splice (now (out .entry)) to (canonical live (part (now (src .entry)) at n)) ⌝ }
+    ensures { λ _. ⌜ now (out .exit) ≡ splice (now (out .entry)) to (canonical live (run (now (src .entry)) at n)) ⌝ }
 {
     let mut i = 0;
     let mut on = live;
@@ -219,7 +219,7 @@ fn write_name_end(src: &[u8], at: usize, out: &mut [u8], to: usize, n: usize, li
 // It goes by words and does not branch on the bytes, since names end anywhere.
 pub fn write_name(src: &[u8], at: usize, out: &mut [u8], to: usize, width: usize)
     requires { ⌜ (at + width ≤ length (now src)) × (to + width ≤ length (now out)) ⌝ }
-    ensures { λ _. ⌜ now (out .exit) ≡ splice (now (out .entry)) to (padded width (before-zero (part (now (src .entry)) at width))) ⌝ }
+    ensures { λ _. ⌜ now (out .exit) ≡ splice (now (out .entry)) to (padded width (before-zero (run (now (src .entry)) at width))) ⌝ }
 {
     let mut i = 0;
     let mut live = true;

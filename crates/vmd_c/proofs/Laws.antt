@@ -7,7 +7,7 @@ use lib.ListN.{length}
 use Rattle.vmd_format.specs.Refusal.{Refusal, number}
 use Rattle.vmd_format.specs.Answer.{Answer, declined, given, map-answer}
 use Rattle.vmd_format.specs.Layout.{Layout}
-use Rattle.vmd_format.specs.Opening.{Part, Scan}
+use Rattle.vmd_format.specs.Opening.{Extent, Scan}
 use Rattle.vmd_format.specs.Fetch.{record-place, fetch, or-empty, fetch-property, fetch-ik-state}
 use Rattle.vmd_format.specs.Join.{joined-model}
 use Rattle.vmd_base.specs.declared.VmdPart.{VmdPart}
@@ -17,7 +17,7 @@ use Rattle.vmd_c.specs.Meaning.{status, slot-after, joined-words}
 
 -- ---- an opening made of counts and places serves the calls as the sections that these say
 
-pub fetch-at : {A : Type 0} (K : Layout A) (pick : Scan → Part) (i : ℕ) (s : List ℕ) {x y : Scan} → x ≡ y → fetch K (pick x) i s ≡ fetch K (pick y) i s
+pub fetch-at : {A : Type 0} (K : Layout A) (pick : Scan → Extent) (i : ℕ) (s : List ℕ) {x y : Scan} → x ≡ y → fetch K (pick x) i s ≡ fetch K (pick y) i s
 fetch-at K pick i s e = ap (λ x. fetch K (pick x) i s) e
 
 pub fetch-property-at : (scratch : List ℕ) (i : ℕ) (s : List ℕ) {x y : Scan} → x ≡ y
@@ -29,7 +29,7 @@ pub fetch-ik-at : (scratch : List ℕ) (i j : ℕ) (s : List ℕ) {x y : Scan} �
 fetch-ik-at scratch i j s e = ap (λ x. fetch-ik-state (x .properties) scratch i j s) e
 
 -- the part that a call gave
-pub field-part-at : {A : Type 0} (K : Layout A) (size : ℕ) (field : A → List ℕ) (offset : ℕ) (pick : Scan → Part) (i : ℕ) (s : List ℕ) {x y : Scan} {p : VmdPart}
+pub field-part-at : {A : Type 0} (K : Layout A) (size : ℕ) (field : A → List ℕ) (offset : ℕ) (pick : Scan → Extent) (i : ℕ) (s : List ℕ) {x y : Scan} {p : VmdPart}
     → x ≡ y → p ≡ part-in (record-place size (pick x) i s) offset (or-empty (map-answer field (fetch K (pick x) i s)))
     → p ≡ part-in (record-place size (pick y) i s) offset (or-empty (map-answer field (fetch K (pick y) i s)))
 field-part-at K size field offset pick i s e q =

@@ -11,7 +11,7 @@ use Rattle.vmd_format.specs.Records.{Light}
 use Rattle.vmd_format.specs.Opening.{Scan, Opening}
 use Rattle.vmd_format.specs.Computed.{computed}
 use Rattle.vmd_places.specs.Parts.{file-part, part-in}
-use Rattle.vmd_c.specs.Meaning.{status, slot-after, counts-of, places-of, totals-of, part-at, scan-at, bone-words, morph-words, camera-words, light-values, light-words, self-shadow-words, property-words, part-words, joined-words, file-of}
+use Rattle.vmd_c.specs.Meaning.{status, slot-after, counts-of, places-of, totals-of, extent-at, scan-at, bone-words, morph-words, camera-words, light-values, light-words, self-shadow-words, property-words, part-words, joined-words, file-of}
 
 -- 0, or the number; the new value, or the old
 pub returned :
@@ -41,7 +41,7 @@ pub an-opening :
     × (places-of opening ≡ 54 ∷ 169 ∷ 265 ∷ 391 ∷ 535 ∷ 593 ∷ [])
     × (totals-of opening ≡ 7 ∷ 8 ∷ [])
     × (scan-at (1 ∷ 2 ∷ 3 ∷ 4 ∷ 5 ∷ 6 ∷ []) (54 ∷ 169 ∷ 265 ∷ 391 ∷ 535 ∷ 593 ∷ []) ≡ sections 0)
-unfolding counts-of places-of totals-of part-at scan-at
+unfolding counts-of places-of totals-of extent-at scan-at
 an-opening = (refl, refl, refl, refl)
 
 -- ---- records

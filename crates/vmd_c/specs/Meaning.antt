@@ -9,7 +9,7 @@ use Rattle.vmd_format.specs.Bytes.{flag-byte}
 use Rattle.vmd_format.specs.Refusal.{number}
 use Rattle.vmd_format.specs.Answer.{Answer, declined, given}
 use Rattle.vmd_format.specs.Records.{Bone, Morph, Camera, Light, SelfShadow}
-use Rattle.vmd_format.specs.Opening.{Part, Scan, Opening}
+use Rattle.vmd_format.specs.Opening.{Extent, Scan, Opening}
 use Rattle.vmd_format.specs.Fetch.{PropertyHead}
 use Rattle.vmd_base.specs.declared.VmdPart.{VmdPart}
 
@@ -39,18 +39,18 @@ unfoldable pub totals-of : Opening → List ℕ
 totals-of o = o .scan .ik-states ∷ o .largest-frame ∷ []
 
 -- the section of an index
-unfoldable pub part-at : List ℕ → List ℕ → ℕ → Part
-part-at counts places k = record { count = getD counts k 0; place = getD places k 0 }
+unfoldable pub extent-at : List ℕ → List ℕ → ℕ → Extent
+extent-at counts places k = record { count = getD counts k 0; place = getD places k 0 }
 
 -- the sections that counts and places say; the calls for records look at nothing else of an opening
 unfoldable pub scan-at : List ℕ → List ℕ → Scan
 scan-at counts places = record {
-  bones = part-at counts places 0;
-  morphs = part-at counts places 1;
-  cameras = part-at counts places 2;
-  lights = part-at counts places 3;
-  self-shadows = part-at counts places 4;
-  properties = part-at counts places 5;
+  bones = extent-at counts places 0;
+  morphs = extent-at counts places 1;
+  cameras = extent-at counts places 2;
+  lights = extent-at counts places 3;
+  self-shadows = extent-at counts places 4;
+  properties = extent-at counts places 5;
   ik-states = 0;
 }
 

@@ -5,9 +5,8 @@ use mathlib.Core.List.{List}
 use lib.ListN.{length, drop}
 use Rattle.vmd_format.specs.Bytes.{u32}
 use Rattle.vmd_format.specs.Read.{Step, refused, got}
-use Rattle.vmd_format.specs.Take.{property}
 use Rattle.vmd_format.specs.Records.{Property}
-use Rattle.vmd_format.specs.Parts.{finite, frames}
+use Rattle.vmd_format.specs.Parts.{finite}
 
 -- n floats one after another, by their bits, after those that were finite so far
 unfoldable pub finite-words : Bool → ℕ → List ℕ → Bool

@@ -3,8 +3,6 @@ use vmd_names::Check;
 ghost use mathlib.Core.Path.{_≡_};
 ghost use mathlib.Core.Bool.{true};
 ghost use Prim.Native.Nat.{_+_, _<_};
-ghost use lib.ListN.{length};
-ghost use Rattle.vmd_format.specs.Read.{table};
 ghost use Rattle.vmd_format.specs.Parts.{name-check, table-right, names-of, each};
 ghost use Rattle.vmd_names.specs.Meaning.{check-of};
 ghost use Rattle.vmd_check_tables.specs.Meaning.{table-of};

@@ -9,7 +9,7 @@ ghost use mathlib.Core.Path.{_≡_};
 ghost use mathlib.Core.Bool.{true};
 ghost use Prim.Native.Nat.{_*_};
 ghost use lib.ListN.{length};
-ghost use Rattle.vmd_format.specs.Parts.{table-right, each, is-got, frames, parts-check};
+ghost use Rattle.vmd_format.specs.Parts.{table-right, is-got, frames, parts-check};
 ghost use Rattle.vmd_names.specs.Meaning.{check-of};
 ghost use Rattle.vmd_check_tables.specs.Meaning.{table-of};
 ghost use Rattle.vmd_check_columns.specs.Meaning.{bits};

@@ -14,7 +14,7 @@ use Rattle.vmd_format.specs.Opening.{ik-total, Scan}
 use Rattle.vmd_format.specs.Fetch.{model-of}
 use Rattle.vmd_format.specs.Places.{walk, scan-file}
 use Rattle.vmd_format.specs.PlacesLaws.{section-in, frames-in}
-use Rattle.vmd_format.specs.ScanLaws.{file-in, PartWithin, Inside}
+use Rattle.vmd_format.specs.ScanLaws.{file-in, ExtentWithin, Inside}
 use Rattle.vmd_format.specs.Lengths.{export-length}
 use Rattle.vmd_format.specs.Join.{export-file, joined-model, join, fit-together, join-takes, join-files}
 use Rattle.vmd_format.specs.ExportLaws.{take-in, Scanned, scan-scanned, export-by-places, join-by-places, scan-counts, join-length, join-fits}
@@ -74,7 +74,7 @@ alone s x c n = record {
   sums = n;
 }
   where
-    nothing : (w : ℕ) → PartWithin w s (record { count = 0; place = 0 })
+    nothing : (w : ℕ) → ExtentWithin w s (record { count = 0; place = 0 })
     nothing w = record { place = omega arith; ends = omega arith }
 
     none : Inside s no-scan

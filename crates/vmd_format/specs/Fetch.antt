@@ -13,15 +13,15 @@ use Rattle.vmd_format.specs.Answer.{Answer, declined, given, and-then, m
 use Rattle.vmd_format.specs.Records.{IkState, property-head, ik-state}
 use Rattle.vmd_format.specs.Read.{Step, refused, got}
 use Rattle.vmd_format.specs.Take.{header}
-use Rattle.vmd_format.specs.Opening.{Part}
+use Rattle.vmd_format.specs.Opening.{Extent}
 
 -- where record i of a section of records of so many bytes stands, all of it in the file
-unfoldable pub record-place : ℕ → Part → ℕ → List ℕ → Answer ℕ
+unfoldable pub record-place : ℕ → Extent → ℕ → List ℕ → Answer ℕ
 record-place size p i s =
     unless (ltb i (p .count) && leb (p .place + i * size + size) (length s)) outside (given (p .place + i * size))
 
 -- the record that a layout reads there
-unfoldable pub fetch : {A : Type 0} → Layout A → Part → ℕ → List ℕ → Answer A
+unfoldable pub fetch : {A : Type 0} → Layout A → Extent → ℕ → List ℕ → Answer A
 fetch K p i s = map-answer (λ at. K .decode (drop at s)) (record-place (K .size) p i s)
 
 -- "in place of refusal 4, or for a model name whose header is refused, that part is empty"
@@ -44,7 +44,7 @@ pub record PropertyHead : Type 0 where
   pub ik-count : ℕ
 
 -- where property frame i stands: the scratch names it, and its nine bytes are in the file
-unfoldable pub property-place : Part → List ℕ → ℕ → List ℕ → Answer ℕ
+unfoldable pub property-place : Extent → List ℕ → ℕ → List ℕ → Answer ℕ
 property-place p scratch i s =
     unless (ltb i (p .count) && ltb i (length scratch) && leb (getD scratch i 0 + 9) (length s)) outside (given (getD scratch i 0))
 
@@ -55,13 +55,13 @@ property-at s at = record {
   ik-count = u32 (drop (at + 5) s);
 }
 
-unfoldable pub fetch-property : Part → List ℕ → ℕ → List ℕ → Answer PropertyHead
+unfoldable pub fetch-property : Extent → List ℕ → ℕ → List ℕ → Answer PropertyHead
 fetch-property p scratch i s = map-answer (property-at s) (property-place p scratch i s)
 
 -- the IK states of the property frame at a place: the count read there, and the bytes after it
-unfoldable pub ik-part : List ℕ → ℕ → Part
-ik-part s at = record { count = u32 (drop (at + 5) s); place = at + 9 }
+unfoldable pub ik-extent : List ℕ → ℕ → Extent
+ik-extent s at = record { count = u32 (drop (at + 5) s); place = at + 9 }
 
 -- IK state j of property frame i
-unfoldable pub fetch-ik-state : Part → List ℕ → ℕ → ℕ → List ℕ → Answer IkState
-fetch-ik-state p scratch i j s = and-then (property-place p scratch i s) λ at. fetch ik-state (ik-part s at) j s
+unfoldable pub fetch-ik-state : Extent → List ℕ → ℕ → ℕ → List ℕ → Answer IkState
+fetch-ik-state p scratch i j s = and-then (property-place p scratch i s) λ at. fetch ik-state (ik-extent s at) j s

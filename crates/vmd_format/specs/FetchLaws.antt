@@ -16,8 +16,8 @@ use Rattle.vmd_format.specs.Answer.{Answer, declined, given, and-then, m
 use Rattle.vmd_format.specs.Records.{IkState, Property, bone, morph, camera, light, self-shadow, ik-state, property-head}
 use Rattle.vmd_format.specs.Read.{Step, refused, got, table, refuse, Manner}
 use Rattle.vmd_format.specs.Take.{Take, File, take-of, read-file, answer, read-take}
-use Rattle.vmd_format.specs.Opening.{ik-total, largest-frame, positions, Part, Scan, Opening, open-file, scratch-if, scratch-after}
-use Rattle.vmd_format.specs.Fetch.{record-place, fetch, or-empty, model-of, PropertyHead, property-place, property-at, fetch-property, ik-part, fetch-ik-state}
+use Rattle.vmd_format.specs.Opening.{ik-total, largest-frame, positions, Extent, Scan, Opening, open-file, scratch-if, scratch-after}
+use Rattle.vmd_format.specs.Fetch.{record-place, fetch, or-empty, model-of, PropertyHead, property-place, property-at, fetch-property, ik-extent, fetch-ik-state}
 use Rattle.vmd_format.specs.Places.{Span, span, Walk, walk-on, walk, next-frame, frame-places, scan-largest, open-scan, scan-file, scan-scratch}
 use Rattle.vmd_format.specs.PlacesLaws.{Holds, table-length, table-at, section-in, property-in, frames-in, Frame, frame-span}
 use Rattle.vmd_format.specs.ScanLaws.{frames-length, file-in, Inside, Agrees, Matches, file-agrees}
@@ -26,11 +26,11 @@ use Rattle.vmd_format.specs.OpeningLaws.{file-largest, positions-places,
 -- ---- records of one size
 
 -- the fetch of each record of a list, and refusal 4 past it
-pub record Fetches {A : Type 0} (K : Layout A) (p : Part) (s : List ℕ) (l : List A) : Type 0 where
+pub record Fetches {A : Type 0} (K : Layout A) (p : Extent) (s : List ℕ) (l : List A) : Type 0 where
   pub own : (i : ℕ) (d : A) → i < length l → fetch K p i s ≡ given (getD l i d)
   pub past : (i : ℕ) → length l ≤ i → fetch K p i s ≡ declined outside
 
-pub fetches-table : {A : Type 0} (K : Layout A) (p : Part) (s : List ℕ) → p .place + p .count * K .size ≤ length s
+pub fetches-table : {A : Type 0} (K : Layout A) (p : Extent) (s : List ℕ) → p .place + p .count * K .size ≤ length s
     → Fetches K p s (table K (p .count) (drop (p .place) s))
 unfolding fetch record-place map-answer unless
 fetches-table K p s w = record { own = own; past = past }
@@ -54,7 +54,7 @@ fetches-table K p s w = record { own = own; past = past }
     past i h = let k : p .count ≤ i = rw n at h in rw (le-ltb i (p .count) k)
 
 -- what is made of a record that is fetched: its fields, or a part of the file
-module _ {A : Type 0} {K : Layout A} {p : Part} {s : List ℕ} {l : List A} (h : Fetches K p s l) where
+module _ {A : Type 0} {K : Layout A} {p : Extent} {s : List ℕ} {l : List A} (h : Fetches K p s l) where
   pub fetches-fields : {B : Type 0} (f : A → B) (i : ℕ) (d : A) → i < length l → map-answer f (fetch K p i s) ≡ given (f (getD l i d))
   unfolding map-answer
   fetches-fields f i d k = rw (h .own i d k)
@@ -108,11 +108,11 @@ head-at : (s : List ℕ) (at : ℕ) → property-at s at ≡ head-of (property-i
 unfolding property-at head-of property-in property-head number flag _⊗_
 head-at s at = rw (table-length ik-state (u32 (drop (at + 5) s)) (drop (at + 9) s)) (simp (drop-drop, getD-drop, add-zero))
 
-fetches-states : (s : List ℕ) (at : ℕ) → next-frame s at ≤ length s → Fetches ik-state (ik-part s at) s (property-in s at .ik-states)
-unfolding ik-part property-in next-frame ik-state as-record name flag _⊗_
-fetches-states s at h = fetches-table ik-state (ik-part s at) s h
+fetches-states : (s : List ℕ) (at : ℕ) → next-frame s at ≤ length s → Fetches ik-state (ik-extent s at) s (property-in s at .ik-states)
+unfolding ik-extent property-in next-frame ik-state as-record name flag _⊗_
+fetches-states s at h = fetches-table ik-state (ik-extent s at) s h
 
-pub record FetchesProperties (p : Part) (scratch s : List ℕ) (l : List Property) : Type 0 where
+pub record FetchesProperties (p : Extent) (scratch s : List ℕ) (l : List Property) : Type 0 where
   pub own : (i : ℕ) (d : Property) → i < length l → fetch-property p scratch i s ≡ given (head-of (getD l i d))
   pub past : (i : ℕ) → length l ≤ i → fetch-property p scratch i s ≡ declined outside
   pub own-state : (i j : ℕ) (d : Property) (e : IkState) → i < length l → j < length (getD l i d .ik-states)
@@ -120,7 +120,7 @@ pub record FetchesProperties (p : Part) (scratch s : List ℕ) (l : List Propert
   pub past-state : (i j : ℕ) (d : Property) → i < length l → length (getD l i d .ik-states) ≤ j → fetch-ik-state p scratch i j s ≡ declined outside
   pub past-frame : (i j : ℕ) → length l ≤ i → fetch-ik-state p scratch i j s ≡ declined outside
 
-module _ (p : Part) (s scratch : List ℕ) (w : Walk) (e : walk s (p .count) (p .place) 0 ≡ given w)
+module _ (p : Extent) (s scratch : List ℕ) (w : Walk) (e : walk s (p .count) (p .place) 0 ≡ given w)
     (room : p .count ≤ length scratch) (filled : (i : ℕ) → i < p .count → getD scratch i 0 ≡ getD (frame-places s (p .count) (p .place)) i 0) where
   found : (i : ℕ) → i < p .count → property-place p scratch i s ≡ given (getD (frame-places s (p .count) (p .place)) i 0)
   unfolding property-place unless next-frame
@@ -137,7 +137,7 @@ module _ (p : Part) (s scratch : List ℕ) (w : Walk) (e : walk s (p .count) (p 
   missing i h = rw (le-ltb i (p .count) h)
 
   states : (i j : ℕ) → i < p .count
-      → fetch-ik-state p scratch i j s ≡ fetch ik-state (ik-part s (getD (frame-places s (p .count) (p .place)) i 0)) j s
+      → fetch-ik-state p scratch i j s ≡ fetch ik-state (ik-extent s (getD (frame-places s (p .count) (p .place)) i 0)) j s
   unfolding fetch-ik-state and-then
   states i j h = rw (found i h)
 

@@ -1,20 +1,18 @@
 -- What is known of a scan and of an opening: all they name lies in the file.
-use Prim.Native.Nat.{ℕ, zero, suc, _+_, _*_, _≤_}
-use mathlib.Core.Path.{_≡_, refl, sym, ap, _∙_}
+use Prim.Native.Nat.{ℕ, _+_, _*_, _≤_}
+use mathlib.Core.Path.{_≡_, sym, ap, _∙_}
 use mathlib.Core.Bool.{Bool, true, false}
 use mathlib.Core.List.{List}
 use native.Mathlib.Omega.{arith}
-use lib.ListN.{length, drop}
+use lib.ListN.{length}
 use lib.Dec.{leb}
-use Rattle.vmd_format.specs.Bytes.{u32}
-use Rattle.vmd_format.specs.Refusal.{file-ends-early, scratch-too-short}
+use Rattle.vmd_format.specs.Refusal.{scratch-too-short}
 use Rattle.vmd_format.specs.Answer.{Answer, declined, given, and-then, unless}
-use Rattle.vmd_format.specs.Read.{Step, refused, got, refuse, Manner}
+use Rattle.vmd_format.specs.Read.{Step, refused, got, Manner}
 use Rattle.vmd_format.specs.Take.{File, read-file}
 use Rattle.vmd_format.specs.Opening.{Scan, Opening, open-file}
 use Rattle.vmd_format.specs.Fetch.{model-of}
-use Rattle.vmd_format.specs.Places.{Span, span, Walk, walk-on, walk, next-frame, Reaches, scan-file, scan-largest, open-scan}
-use Rattle.vmd_format.specs.PlacesLaws.{Holds, Frame, frame-span}
+use Rattle.vmd_format.specs.Places.{Reaches, scan-file, scan-largest, open-scan}
 use Rattle.vmd_format.specs.WalkLaws.{Passed, walk-passed}
 use Rattle.vmd_format.specs.ScanLaws.{Inside, Matches, file-agrees}
 use Rattle.vmd_format.specs.OpeningLaws.{open-by-places}

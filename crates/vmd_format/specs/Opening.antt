@@ -36,18 +36,18 @@ positions at [] = []
 positions at (p ∷ l) = at ∷ positions (at + 9 + 21 * length (p .ik-states)) l
 
 -- how many records a section has, and its place (document 01's term)
-pub record Part : Type 0 where
+pub record Extent : Type 0 where
   pub count : ℕ
   pub place : ℕ
 
 -- "six counts, the number of IK states .. and section places"
 pub record Scan : Type 0 where
-  pub bones : Part
-  pub morphs : Part
-  pub cameras : Part
-  pub lights : Part
-  pub self-shadows : Part
-  pub properties : Part
+  pub bones : Extent
+  pub morphs : Extent
+  pub cameras : Extent
+  pub lights : Extent
+  pub self-shadows : Extent
+  pub properties : Extent
   pub ik-states : ℕ
 
 -- an opening (document 01's term)
@@ -56,17 +56,17 @@ pub record Opening : Type 0 where
   pub largest-frame : ℕ
 
 -- "A section's place is just after its count, or the file's length where the count is missing or the section was emptied."
-unfoldable pub part-of : {A : Type 0} → List ℕ → Section A → Part
-part-of s x = record { count = length (x .items); place = length s - length (x .start) }
+unfoldable pub extent-of : {A : Type 0} → List ℕ → Section A → Extent
+extent-of s x = record { count = length (x .items); place = length s - length (x .start) }
 
 unfoldable pub scan-of : List ℕ → File → Scan
 scan-of s f = record {
-  bones = part-of s (f .bones);
-  morphs = part-of s (f .morphs);
-  cameras = part-of s (f .cameras);
-  lights = part-of s (f .lights);
-  self-shadows = part-of s (f .self-shadows);
-  properties = part-of s (f .properties);
+  bones = extent-of s (f .bones);
+  morphs = extent-of s (f .morphs);
+  cameras = extent-of s (f .cameras);
+  lights = extent-of s (f .lights);
+  self-shadows = extent-of s (f .self-shadows);
+  properties = extent-of s (f .properties);
   ik-states = ik-total (f .properties .items);
 }
 
@@ -91,7 +91,7 @@ unfoldable pub scratch-of : List ℕ → List ℕ → Step File → List ℕ
 scratch-of s scratch (refused k) = scratch
 scratch-of s scratch (got f r) =
     scratch-if (leb (length (f .properties .items)) (length scratch))
-    (positions (part-of s (f .properties) .place) (f .properties .items)) scratch
+    (positions (extent-of s (f .properties) .place) (f .properties .items)) scratch
 
 unfoldable pub scratch-after : Manner → List ℕ → List ℕ → List ℕ
 scratch-after m s scratch = scratch-of s scratch (read-file m s)

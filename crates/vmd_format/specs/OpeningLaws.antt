@@ -12,9 +12,9 @@ use Rattle.vmd_format.specs.Answer.{Answer, declined, given, and-then, u
 use Rattle.vmd_format.specs.Records.{bone, morph, camera, light, self-shadow, ik-state}
 use Rattle.vmd_format.specs.Read.{Step, refused, got, table, Manner}
 use Rattle.vmd_format.specs.Take.{Take, File, take-of, read-file, answer, read-take}
-use Rattle.vmd_format.specs.Opening.{ik-total, largest, largest-frame, positions, Scan, Opening, part-of, scan-of, opening-of, opened, open-file, scratch-of, scratch-after}
+use Rattle.vmd_format.specs.Opening.{ik-total, largest, largest-frame, positions, Scan, Opening, extent-of, scan-of, opening-of, opened, open-file, scratch-of, scratch-after}
 use Rattle.vmd_format.specs.Fetch.{model-of}
-use Rattle.vmd_format.specs.Places.{scan-file, largest-of, next-frame, largest-frame-of, frame-places, part-largest, scan-largest, open-scan, scan-scratch}
+use Rattle.vmd_format.specs.Places.{scan-file, largest-of, next-frame, largest-frame-of, frame-places, extent-largest, scan-largest, open-scan, scan-scratch}
 use Rattle.vmd_format.specs.PlacesLaws.{table-length, section-in, property-in, frames-in}
 use Rattle.vmd_format.specs.ScanLaws.{file-in, Agrees, Matches, file-agrees}
 
@@ -31,7 +31,7 @@ largest-frames s zero at = refl
 largest-frames s (suc n) at = ap (max (u32 (drop at s))) (largest-frames s n (next-frame s at))
 
 pub file-largest : (model s : List ℕ) (x : Scan) → largest-frame (take-of (file-in model s x)) ≡ scan-largest s x
-unfolding largest-frame take-of file-in section-in scan-largest part-largest bone morph camera light self-shadow as-record _⊗_ name number raw byte inverted
+unfolding largest-frame take-of file-in section-in scan-largest extent-largest bone morph camera light self-shadow as-record _⊗_ name number raw byte inverted
 file-largest model s x =
     ap₂ max (largest-table bone (λ b. b .frame) 15 (λ t. refl) (x .bones .count) (drop (x .bones .place) s))
     (ap₂ max (largest-table morph (λ m. m .frame) 15 (λ t. refl) (x .morphs .count) (drop (x .morphs .place) s))
@@ -51,10 +51,10 @@ positions-places s (suc n) at =
 
 module _ {s : List ℕ} {f : File} {x : Scan} (a : Agrees s f x) where
   pub agreed-count : length (f .properties .items) ≡ x .properties .count
-  unfolding scan-of part-of
+  unfolding scan-of extent-of
   agreed-count = ap (λ y. y .properties .count) (a .scan)
 
-  pub agreed-place : part-of s (f .properties) .place ≡ x .properties .place
+  pub agreed-place : extent-of s (f .properties) .place ≡ x .properties .place
   unfolding scan-of
   agreed-place = ap (λ y. y .properties .place) (a .scan)
 

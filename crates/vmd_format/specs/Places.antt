@@ -10,7 +10,7 @@ use Rattle.vmd_format.specs.Refusal.{file-ends-early, scratch-too-short}
 use Rattle.vmd_format.specs.Answer.{Answer, declined, given, and-then, unless}
 use Rattle.vmd_format.specs.Read.{Step, refused, got, Oversized, refuse, emptied, BytesOver, ignored, turned-down, Manner}
 use Rattle.vmd_format.specs.Take.{header}
-use Rattle.vmd_format.specs.Opening.{Part, Scan, Opening, scratch-if}
+use Rattle.vmd_format.specs.Opening.{Extent, Scan, Opening, scratch-if}
 
 -- where the sections begin
 unfoldable pub place-after : List ℕ → Step (List ℕ) → Answer ℕ
@@ -36,8 +36,8 @@ pub record Span : Type 0 where
   pub place : ℕ
   pub next : ℕ
 
-unfoldable pub part-in : Span → Part
-part-in x = record { count = x .count; place = x .place }
+unfoldable pub extent-in : Span → Extent
+extent-in x = record { count = x .count; place = x .place }
 
 unfoldable pub no-span : List ℕ → Span
 no-span s = record { count = 0; place = length s; next = length s }
@@ -102,12 +102,12 @@ scan-sections m s at =
     and-then (optional-span (refuse file-ends-early) 9 s (d .next)) λ p.
     and-then (walk s (p .count) (p .place) 0) λ w.
     over-if (leb (length s) (w .next)) (m .over) (record {
-      bones = part-in b;
-      morphs = part-in f;
-      cameras = part-in c;
-      lights = part-in l;
-      self-shadows = part-in d;
-      properties = part-in p;
+      bones = extent-in b;
+      morphs = extent-in f;
+      cameras = extent-in c;
+      lights = extent-in l;
+      self-shadows = extent-in d;
+      properties = extent-in p;
       ik-states = w .ik-states;
     })
 
@@ -138,16 +138,16 @@ frame-places s zero at = []
 frame-places s (suc n) at = at ∷ frame-places s n (next-frame s at)
 
 -- the largest frame of a part, and of a whole file
-unfoldable pub part-largest : ℕ → ℕ → List ℕ → Part → ℕ
-part-largest offset size s p = largest-of offset size (p .count) (drop (p .place) s)
+unfoldable pub extent-largest : ℕ → ℕ → List ℕ → Extent → ℕ
+extent-largest offset size s p = largest-of offset size (p .count) (drop (p .place) s)
 
 unfoldable pub scan-largest : List ℕ → Scan → ℕ
 scan-largest s x =
-    max (part-largest 15 111 s (x .bones))
-    (max (part-largest 15 23 s (x .morphs))
-    (max (part-largest 0 61 s (x .cameras))
-    (max (part-largest 0 28 s (x .lights))
-    (max (part-largest 0 9 s (x .self-shadows))
+    max (extent-largest 15 111 s (x .bones))
+    (max (extent-largest 15 23 s (x .morphs))
+    (max (extent-largest 0 61 s (x .cameras))
+    (max (extent-largest 0 28 s (x .lights))
+    (max (extent-largest 0 9 s (x .self-shadows))
     (largest-frame-of s (x .properties .count) (x .properties .place))))))
 
 -- opening, and the scratch after it

@@ -16,8 +16,8 @@ use Rattle.vmd_format.specs.Answer.{Answer, declined, given}
 use Rattle.vmd_format.specs.Records.{Property, ik-state, property-head}
 use Rattle.vmd_format.specs.Read.{Step, refused, got, bind, Codec, whole, whole-if, fixed, many, table, Section, no-section, Oversized, refuse, emptied, over-count, records-if, counted-if, counted, optional}
 use Rattle.vmd_format.specs.Take.{property}
-use Rattle.vmd_format.specs.Opening.{ik-total, Part}
-use Rattle.vmd_format.specs.Places.{Span, part-in, no-span, over-span, records-span, count-span, span, optional-if, optional-span, Walk, walk-on, walk, next-frame}
+use Rattle.vmd_format.specs.Opening.{ik-total, Extent}
+use Rattle.vmd_format.specs.Places.{Span, extent-in, no-span, over-span, records-span, count-span, span, optional-if, optional-span, Walk, walk-on, walk, next-frame}
 
 -- a fact of what is given
 abbrev pub Holds : {A : Type 0} → (A → Type 0) → Answer A → Type 0
@@ -159,12 +159,12 @@ module _ {A : Type 0} (C : Codec A) (o : Oversized) (s : List ℕ) (at : ℕ) (h
       go false e = cons (drop at s) (rw length-drop (omega (arith, leb-false (length s) at e))) ∙ counted-by
 
 -- the records of one size at a part of the file
-unfoldable pub section-in : {A : Type 0} → Layout A → List ℕ → Part → Section A
+unfoldable pub section-in : {A : Type 0} → Layout A → List ℕ → Extent → Section A
 section-in K s p = record { start = drop (p .place) s; items = table K (p .count) (drop (p .place) s) }
 
 pub fixed-by : {A : Type 0} (K : Layout A) (s : List ℕ) (x : Span) → Within (K .size) s x
-    → section-by (fixed K) s (given x) ≡ got (section-in K s (part-in x)) (drop (x .next) s)
-unfolding section-by fixed section-in part-in bind
+    → section-by (fixed K) s (given x) ≡ got (section-in K s (extent-in x)) (drop (x .next) s)
+unfolding section-by fixed section-in extent-in bind
 fixed-by K s x w =
     rw (many-table K (x .count) (drop (x .place) s) (rw length-drop (omega (arith, w .place, w .next, w .ends))), drop-drop, ← w .next)
 
@@ -216,7 +216,7 @@ property-step s at (given x) = got (property-in s at) (drop (x .next) s)
 
 property-by : (s : List ℕ) (at : ℕ) → at + 5 ≤ length s
     → property .read (drop at s) ≡ property-step s at (span (refuse file-ends-early) 21 s (at + 5))
-unfolding property whole whole-if property-head number flag _⊗_ bind section-by property-step property-in ik-state as-record name fixed section-in part-in
+unfolding property whole whole-if property-head number flag _⊗_ bind section-by property-step property-in ik-state as-record name fixed section-in extent-in
 property-by s at h =
     rw (le-leb 5 (length (drop at s)) (rw length-drop (omega arith)), drop-drop 5 at s, counted-by (fixed ik-state) (refuse file-ends-early) s (at + 5) h)
     (go (span (refuse file-ends-early) 21 s (at + 5)) (span-within (refuse file-ends-early) 21 s (at + 5)) (frame-span s at))

@@ -16,9 +16,9 @@ use Rattle.vmd_format.specs.Answer.{Answer, declined, given, and-then}
 use Rattle.vmd_format.specs.Records.{Property, bone, morph, camera, light, self-shadow}
 use Rattle.vmd_format.specs.Read.{Step, refused, got, Reader, bind, fixed, many, Section, refuse, BytesOver, ignored, turned-down, Manner}
 use Rattle.vmd_format.specs.Take.{property, File, magic, same, model-if, magic-if, header-if, header, sections, ended, read-file}
-use Rattle.vmd_format.specs.Opening.{ik-total, Part, Scan, part-of, scan-of}
+use Rattle.vmd_format.specs.Opening.{ik-total, Extent, Scan, extent-of, scan-of}
 use Rattle.vmd_format.specs.Fetch.{model-in, model-of}
-use Rattle.vmd_format.specs.Places.{place-after, header-place, HeaderPlaces, header-places, Span, part-in, span, optional-span, Walk, walk, over-if, scan-sections, scan-file, next-frame}
+use Rattle.vmd_format.specs.Places.{place-after, header-place, HeaderPlaces, header-places, Span, extent-in, span, optional-span, Walk, walk, over-if, scan-sections, scan-file, next-frame}
 use Rattle.vmd_format.specs.PlacesLaws.{Holds, table-length, Within, span-within, optional-within, section-by, counted-by, optional-by, section-in, fixed-by, frames-in, Walked, WalkAgrees, walk-agrees}
 
 -- the file of these places
@@ -37,18 +37,18 @@ file-in model s x = record {
 }
 
 -- the records of a section lie in the file
-pub record PartWithin (size : ℕ) (s : List ℕ) (p : Part) : Type 0 where
+pub record ExtentWithin (size : ℕ) (s : List ℕ) (p : Extent) : Type 0 where
   pub place : p .place ≤ length s
   pub ends : p .place + p .count * size ≤ length s
 
 -- so do those of every section, and the walk over the property frames goes through
 pub record Inside (s : List ℕ) (x : Scan) : Type 0 where
-  pub bones : PartWithin 111 s (x .bones)
-  pub morphs : PartWithin 23 s (x .morphs)
-  pub cameras : PartWithin 61 s (x .cameras)
-  pub lights : PartWithin 28 s (x .lights)
-  pub self-shadows : PartWithin 9 s (x .self-shadows)
-  pub properties : PartWithin 9 s (x .properties)
+  pub bones : ExtentWithin 111 s (x .bones)
+  pub morphs : ExtentWithin 23 s (x .morphs)
+  pub cameras : ExtentWithin 61 s (x .cameras)
+  pub lights : ExtentWithin 28 s (x .lights)
+  pub self-shadows : ExtentWithin 9 s (x .self-shadows)
+  pub properties : ExtentWithin 9 s (x .properties)
   pub next : ℕ
   pub walked : walk s (x .properties .count) (x .properties .place) 0 ≡ given (record { next = next; ik-states = x .ik-states })
 
@@ -63,13 +63,13 @@ Matches s model (refused k) (given x) = ⊥
 Matches s model (got f r) (declined j) = ⊥
 Matches s model (got f r) (given x) = (f .model ≡ model) × Agrees s f x
 
-within-part : (size : ℕ) (s : List ℕ) (x : Span) → Within size s x → PartWithin size s (part-in x)
-unfolding part-in
+within-part : (size : ℕ) (s : List ℕ) (x : Span) → Within size s x → ExtentWithin size s (extent-in x)
+unfolding extent-in
 within-part size s x w = record { place = w .place; ends = omega (arith, w .next, w .ends) }
 
 -- a part of the file is found again from its section
-part-found : {A : Type 0} (K : Layout A) (s : List ℕ) (p : Part) → p .place ≤ length s → part-of s (section-in K s p) ≡ p
-unfolding part-of section-in
+part-found : {A : Type 0} (K : Layout A) (s : List ℕ) (p : Extent) → p .place ≤ length s → extent-of s (section-in K s p) ≡ p
+unfolding extent-of section-in
 part-found K s p h =
     let e : length s - length (drop (p .place) s) ≡ p .place = rw length-drop (omega arith) in
     rw (table-length K (p .count) (drop (p .place) s), e)
@@ -79,9 +79,9 @@ unfolding frames-in
 frames-length s zero at = refl
 frames-length s (suc n) at = ap suc (frames-length s n (next-frame s at))
 
-frames-found : (s : List ℕ) (p : Part) (i : List Property) → p .place ≤ length s → i ≡ frames-in s (p .count) (p .place)
-    → part-of s (record { start = drop (p .place) s; items = i }) ≡ p
-unfolding part-of
+frames-found : (s : List ℕ) (p : Extent) (i : List Property) → p .place ≤ length s → i ≡ frames-in s (p .count) (p .place)
+    → extent-of s (record { start = drop (p .place) s; items = i }) ≡ p
+unfolding extent-of
 frames-found s p i h q =
     let e : length s - length (drop (p .place) s) ≡ p .place = rw length-drop (omega arith) in
     rw (q, frames-length s (p .count) (p .place), e)
@@ -89,7 +89,7 @@ frames-found s p i h q =
 module _ (m : Manner) (s model : List ℕ) where
   stage : {A : Type 0} (K : Layout A) (x : Answer Span) (F : Section A → Reader File) (G : Span → Answer Scan)
       → Holds (Within (K .size) s) x
-      → ((y : Span) → Within (K .size) s y → Matches s model (F (section-in K s (part-in y)) (drop (y .next) s)) (G y))
+      → ((y : Span) → Within (K .size) s y → Matches s model (F (section-in K s (extent-in y)) (drop (y .next) s)) (G y))
       → Matches s model (bind (section-by (fixed K) s x) F) (and-then x G)
   unfolding bind section-by and-then
   stage K (declined k) F G w h = refl
@@ -137,32 +137,32 @@ module _ (m : Manner) (s model : List ℕ) where
       → Agrees s
       (record {
         model = model;
-        bones = section-in bone s (part-in b);
-        morphs = section-in morph s (part-in f);
-        cameras = section-in camera s (part-in c);
-        lights = section-in light s (part-in l);
-        self-shadows = section-in self-shadow s (part-in d);
+        bones = section-in bone s (extent-in b);
+        morphs = section-in morph s (extent-in f);
+        cameras = section-in camera s (extent-in c);
+        lights = section-in light s (extent-in l);
+        self-shadows = section-in self-shadow s (extent-in d);
         properties = record { start = drop (p .place) s; items = i };
       })
       (record {
-        bones = part-in b;
-        morphs = part-in f;
-        cameras = part-in c;
-        lights = part-in l;
-        self-shadows = part-in d;
-        properties = part-in p;
+        bones = extent-in b;
+        morphs = extent-in f;
+        cameras = extent-in c;
+        lights = extent-in l;
+        self-shadows = extent-in d;
+        properties = extent-in p;
         ik-states = w .ik-states;
       })
-  unfolding file-in scan-of part-in
+  unfolding file-in scan-of extent-in
   file-found b f c l d p i t w wb wf wc wl wd wp a e = let k : ik-total i ≡ w .ik-states = omega (arith, a .ik-states) in record {
     file = rw (a .frames);
     scan = λ j. record {
-      bones = part-found bone s (part-in b) (wb .place) j;
-      morphs = part-found morph s (part-in f) (wf .place) j;
-      cameras = part-found camera s (part-in c) (wc .place) j;
-      lights = part-found light s (part-in l) (wl .place) j;
-      self-shadows = part-found self-shadow s (part-in d) (wd .place) j;
-      properties = frames-found s (part-in p) i (wp .place) (a .frames) j;
+      bones = part-found bone s (extent-in b) (wb .place) j;
+      morphs = part-found morph s (extent-in f) (wf .place) j;
+      cameras = part-found camera s (extent-in c) (wc .place) j;
+      lights = part-found light s (extent-in l) (wl .place) j;
+      self-shadows = part-found self-shadow s (extent-in d) (wd .place) j;
+      properties = frames-found s (extent-in p) i (wp .place) (a .frames) j;
       ik-states = k j;
     };
     inside = record {

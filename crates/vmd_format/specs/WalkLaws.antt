@@ -11,7 +11,7 @@ use Rattle.vmd_format.specs.Layout.{number, flag, _⊗_}
 use Rattle.vmd_format.specs.Refusal.{file-ends-early}
 use Rattle.vmd_format.specs.Answer.{Answer, declined, given}
 use Rattle.vmd_format.specs.Read.{fixed, table, write-all, write-counted, refuse}
-use Rattle.vmd_format.specs.Records.{Property, ik-state, property-head}
+use Rattle.vmd_format.specs.Records.{ik-state, property-head}
 use Rattle.vmd_format.specs.Take.{property}
 use Rattle.vmd_format.specs.Opening.{ik-total}
 use Rattle.vmd_format.specs.Places.{Span, Walk, span, walk, walk-on, next-frame, Reaches}

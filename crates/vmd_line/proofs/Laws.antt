@@ -14,7 +14,7 @@ use Rattle.vmd_format.specs.Answer.{Answer, declined, given, within}
 use Rattle.vmd_format.specs.AnswerLaws.{within-fits}
 use Rattle.vmd_format.specs.Read.{Manner}
 use Rattle.vmd_format.specs.Opening.{Scan, Opening, open-file, scratch-after}
-use Rattle.vmd_bytes.specs.Slices.{splice, part}
+use Rattle.vmd_bytes.specs.Slices.{splice, run}
 use Rattle.vmd_bytes.specs.Written.{Room, Wrote}
 use Rattle.vmd_bytes.proofs.Laws.{length-splice, splice-nil, set-splice, part-snoc}
 use Rattle.vmd_bytes.proofs.Writes.{rest-all, rest-then, rest-done}
@@ -106,24 +106,24 @@ spaced-snoc [] n = ap (λ t. 32 ∷ t) (append-nil (decimal n))
 spaced-snoc (a ∷ l) n = ap (λ t. 32 ∷ t) (rw (spaced-snoc l n) (sym (append-assoc (decimal a) (spaced l) (32 ∷ decimal n))))
 
 -- the numbers after the first, of which i - 1 are written: a space and one more
-pub row-turn : (ns o out k : List ℕ) (from at i end : ℕ) → 1 ≤ i → i < length ns → Wrote o from (spaced (part ns 1 (i - 1))) out at → at < length o
+pub row-turn : (ns o out k : List ℕ) (from at i end : ℕ) → 1 ≤ i → i < length ns → Wrote o from (spaced (run ns 1 (i - 1))) out at → at < length o
     → Wrote (set out at 32) (at + 1) (decimal (getD ns i 0)) k end → end ≤ length o
-    → Wrote o from (spaced (part ns 1 (i + 1 - 1))) k end
+    → Wrote o from (spaced (run ns 1 (i + 1 - 1))) k end
 row-turn ns o out k from at i end g h w r d f =
-    let u = spaced (part ns 1 (i - 1)) in
+    let u = spaced (run ns 1 (i - 1)) in
     let a : i + 1 - 1 ≡ i - 1 + 1 = omega arith in
     let b : 1 + (i - 1) ≡ i = omega arith in
-    let p : part ns 1 (i - 1 + 1) ≡ part ns 1 (i - 1) ++ (getD ns i 0 ∷ []) = rw (part-snoc ns 1 (i - 1) (omega arith), b) in
-    rw (a, p, spaced-snoc (part ns 1 (i - 1)) (getD ns i 0), ← append-assoc u (32 ∷ []) (decimal (getD ns i 0)))
+    let p : run ns 1 (i - 1 + 1) ≡ run ns 1 (i - 1) ++ (getD ns i 0 ∷ []) = rw (part-snoc ns 1 (i - 1) (omega arith), b) in
+    rw (a, p, spaced-snoc (run ns 1 (i - 1)) (getD ns i 0), ← append-assoc u (32 ∷ []) (decimal (getD ns i 0)))
     (wrote-more (wrote-byte w 32 r) d f)
 
-row-parts : (ns : List ℕ) → length ns ≡ 9 → row ns ≡ decimal (getD ns 0 0) ++ spaced (part ns 1 8) ++ (10 ∷ [])
-unfolding row part
+row-parts : (ns : List ℕ) → length ns ≡ 9 → row ns ≡ decimal (getD ns 0 0) ++ spaced (run ns 1 8) ++ (10 ∷ [])
+unfolding row run
 row-parts [] h = absurd (omega arith)
 row-parts (n ∷ l) h = rw (take-all 8 l (omega arith))
 
 -- the first number, the others and a line feed
-pub row-done : (l ns o out : List ℕ) (from at : ℕ) → length ns ≡ 9 → Wrote l 0 (decimal (getD ns 0 0)) o from → Wrote o from (spaced (part ns 1 8)) out at
+pub row-done : (l ns o out : List ℕ) (from at : ℕ) → length ns ≡ 9 → Wrote l 0 (decimal (getD ns 0 0)) o from → Wrote o from (spaced (run ns 1 8)) out at
     → at < length l → Wrote l 0 (row ns) (set out at 10) (at + 1)
 row-done l ns o out from at h v w r = rw (row-parts ns h) (wrote-byte (wrote-more v w (omega arith)) 10 r)
 

@@ -7,10 +7,9 @@ use lib.ListN.{length, drop, length-append}
 use Rattle.vmd_format.specs.Bytes.{u32-bytes, padded}
 use Rattle.vmd_format.specs.BytesLaws.{padded-length}
 use Rattle.vmd_format.specs.Layout.{Layout}
-use Rattle.vmd_format.specs.Answer.{left}
 use Rattle.vmd_format.specs.Read.{Codec, fixed, table, write-all, write-counted}
 use Rattle.vmd_format.specs.Take.{property, magic, write-header}
-use Rattle.vmd_format.specs.Opening.{Part}
+use Rattle.vmd_format.specs.Opening.{Extent}
 use Rattle.vmd_format.specs.PlacesLaws.{table-length, frames-in}
 use Rattle.vmd_format.specs.ScanLaws.{frames-length}
 use Rattle.vmd_bytes.specs.Slices.{splice}
@@ -45,7 +44,7 @@ counted-both : {A : Type 0} (C : Codec A) (l m : List A) {i j : ℕ} → length 
 unfolding write-counted
 counted-both C l m e f = rw (length-append l m, write-all-append, e, f)
 
-module _ {A : Type 0} (K : Layout A) (s : List ℕ) (p : Part) (t : List ℕ) (q : Part) where
+module _ {A : Type 0} (K : Layout A) (s : List ℕ) (p : Extent) (t : List ℕ) (q : Extent) where
   section-is : write-counted (fixed K) (records-of K s p t q) ≡ u32-bytes (p .count + q .count) ++ (rows K s p ++ rows K t q)
   unfolding records-of fixed
   section-is =
@@ -57,7 +56,7 @@ module _ {A : Type 0} (K : Layout A) (s : List ℕ) (p : Part) (t : List ℕ) (q
       → Rest l to (write-counted (fixed K) (records-of K s p t q)) l to (u32-bytes (p .count + q .count) ++ (rows K s p ++ rows K t q))
   section-rest h = rest-as section-is h
 
-module _ (s : List ℕ) (p : Part) (t : List ℕ) (q : Part) where
+module _ (s : List ℕ) (p : Extent) (t : List ℕ) (q : Extent) where
   frames-are : write-counted property (frames-of s p t q) ≡ u32-bytes (p .count + q .count) ++ (frame-rows s p ++ frame-rows t q)
   unfolding frames-of
   frames-are =

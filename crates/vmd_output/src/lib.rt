@@ -18,11 +18,11 @@ ghost use Rattle.vmd_format.specs.Bytes.{u32-bytes};
 ghost use Rattle.vmd_format.specs.Read.{fixed, write-counted};
 ghost use Rattle.vmd_format.specs.Take.{property, write-header};
 ghost use Rattle.vmd_format.specs.Join.{file-length};
-ghost use Rattle.vmd_base.specs.Meaning.{part-is};
+ghost use Rattle.vmd_base.specs.Meaning.{extent-is};
 ghost use Rattle.vmd_records.specs.Kinds.{layout, size-of};
 ghost use Rattle.vmd_output.specs.Meaning.{written-answer};
 ghost use Rattle.vmd_bytes.specs.Written.{Room, Wrote};
-ghost use Rattle.vmd_output.specs.Sections.{Parts, Frames, records-of, frames-of};
+ghost use Rattle.vmd_output.specs.Sections.{BothWithin, Frames, records-of, frames-of};
 
 // What a call that writes answers: a refusal, or how many bytes.
 pub enum VmdWritten {
@@ -110,8 +110,8 @@ pub fn write_section(
     second: &[u8],
     b: VmdSection,
 ) -> usize
-    requires { ⌜ Parts (size-of kind) (now first) (part-is a) (now second) (part-is b) × Room (now out) to (write-counted (fixed (layout kind)) (records-of (layout kind) (now first) (part-is a) (now second) (part-is b))) ⌝ }
-    ensures { λ r. ⌜ Wrote (now (out .entry)) to (write-counted (fixed (layout kind)) (records-of (layout kind) (now (first .entry)) (part-is a) (now (second .entry)) (part-is b))) (now (out .exit)) r ⌝ }
+    requires { ⌜ BothWithin (size-of kind) (now first) (extent-is a) (now second) (extent-is b) × Room (now out) to (write-counted (fixed (layout kind)) (records-of (layout kind) (now first) (extent-is a) (now second) (extent-is b))) ⌝ }
+    ensures { λ r. ⌜ Wrote (now (out .entry)) to (write-counted (fixed (layout kind)) (records-of (layout kind) (now (first .entry)) (extent-is a) (now (second .entry)) (extent-is b))) (now (out .exit)) r ⌝ }
 {
     let p = write_count(out, to, a.count + b.count);
     let q = vmd_writers::write_records(out, p, kind, first, a.place, a.count as usize);
@@ -127,8 +127,8 @@ pub fn write_property_section(
     second: &[u8],
     b: VmdSection,
 ) -> usize
-    requires { ⌜ Frames (now first) (part-is a) (now second) (part-is b) × Room (now out) to (write-counted property (frames-of (now first) (part-is a) (now second) (part-is b))) ⌝ }
-    ensures { λ r. ⌜ Wrote (now (out .entry)) to (write-counted property (frames-of (now (first .entry)) (part-is a) (now (second .entry)) (part-is b))) (now (out .exit)) r ⌝ }
+    requires { ⌜ Frames (now first) (extent-is a) (now second) (extent-is b) × Room (now out) to (write-counted property (frames-of (now first) (extent-is a) (now second) (extent-is b))) ⌝ }
+    ensures { λ r. ⌜ Wrote (now (out .entry)) to (write-counted property (frames-of (now (first .entry)) (extent-is a) (now (second .entry)) (extent-is b))) (now (out .exit)) r ⌝ }
 {
     let p = write_count(out, to, a.count + b.count);
     let q = vmd_write_properties::write_properties(out, p, first, a.place, a.count as usize);

@@ -12,7 +12,7 @@ use Rattle.vmd_format.specs.Bytes.{u32-bytes}
 use Rattle.vmd_format.specs.Records.{Bone, Morph, bone, morph}
 use Rattle.vmd_format.specs.Read.{table, fixed, write-all, write-counted}
 use Rattle.vmd_format.specs.Take.{property, write-header, write-sections, write-take}
-use Rattle.vmd_format.specs.Opening.{Part}
+use Rattle.vmd_format.specs.Opening.{Extent}
 use Rattle.vmd_format.specs.Places.{Reaches}
 use Rattle.vmd_format.specs.PlacesLaws.{table-length}
 use Rattle.vmd_format.specs.Parts.{NameTable, Parts, records-of, is-got, frames, properties-of, upto, bone-at, morph-at, take-of-parts, passes, fails, parts-check, build, bone-check, morph-check}
@@ -60,7 +60,7 @@ size-positive kind.Light = omega arith
 size-positive kind.SelfShadow = omega arith
 
 module _ (k : VmdKind) (s : List ℕ) {z : ℕ} (e : z ≡ size-of k) where
-  abbrev filling : Part
+  abbrev filling : Extent
   filling = record { count = length s / z; place = 0 }
 
   pub filling-lies : 0 + length s / z * size-of k ≤ length s

@@ -14,7 +14,6 @@ ghost use Rattle.vmd_format.specs.Read.{fixed, write-counted};
 ghost use Rattle.vmd_format.specs.Take.{property};
 ghost use Rattle.vmd_format.specs.Parts.{records-of, is-got, frames, properties-of, upto, build};
 ghost use Rattle.vmd_format.specs.Answer.{fitted, map-answer, within, left};
-ghost use Rattle.vmd_bytes.specs.Slices.{part};
 ghost use Rattle.vmd_check_tables.specs.Meaning.{table-of};
 ghost use Rattle.vmd_check_columns.specs.Meaning.{bits};
 ghost use Rattle.vmd_checks.specs.Meaning.{parts-of};

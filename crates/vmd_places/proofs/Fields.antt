@@ -8,8 +8,8 @@ use lib.Seq.{drop-drop}
 use Rattle.vmd_format.specs.Layout.{Layout, number, byte, flag, inverted, name, raw, _⊗_, as-record}
 use Rattle.vmd_format.specs.Answer.{Answer, declined, given, and-then, map-answer}
 use Rattle.vmd_format.specs.Records.{bone, morph, camera, light, self-shadow, ik-state}
-use Rattle.vmd_format.specs.Opening.{Part}
-use Rattle.vmd_format.specs.Fetch.{record-place, fetch, or-empty, property-place, ik-part, fetch-ik-state}
+use Rattle.vmd_format.specs.Opening.{Extent}
+use Rattle.vmd_format.specs.Fetch.{record-place, fetch, or-empty, property-place, ik-extent, fetch-ik-state}
 use Rattle.vmd_places.specs.Meaning.{ik-place}
 use Rattle.vmd_places.specs.Parts.{part-in, Cuts, name-in, there}
 use Rattle.vmd_places.proofs.Parts.{Front, front-name, front-bytes, there-cuts}
@@ -76,7 +76,7 @@ bone-interpolation = record { sized = bone-size; taken = bone-interpolation-at; 
 pub camera-interpolation : Field camera 61 (λ x. x .interpolation) (take 24) 32
 camera-interpolation = record { sized = camera-size; taken = camera-interpolation-at; front = front-bytes 24 }
 
-module _ {A : Type 0} {K : Layout A} {size : ℕ} {field : A → List ℕ} {h : List ℕ → List ℕ} {offset : ℕ} (f : Field K size field h offset) (p : Part) (i : ℕ) (s : List ℕ) where
+module _ {A : Type 0} {K : Layout A} {size : ℕ} {field : A → List ℕ} {h : List ℕ → List ℕ} {offset : ℕ} (f : Field K size field h offset) (p : Extent) (i : ℕ) (s : List ℕ) where
   -- what a fetch gives of a field stands there
   pub field-there : or-empty (map-answer field (fetch K p i s)) ≡ there h offset (record-place size p i s) s
   unfolding fetch there map-answer or-empty
@@ -92,14 +92,14 @@ module _ {A : Type 0} {K : Layout A} {size : ℕ} {field : A → List ℕ} {h : 
 
 -- ---- IK states
 
-module _ (p : Part) (scratch : List ℕ) (i j : ℕ) (s : List ℕ) where
+module _ (p : Extent) (scratch : List ℕ) (i j : ℕ) (s : List ℕ) where
   pub ik-is : fetch-ik-state p scratch i j s ≡ map-answer (λ at. ik-state .decode (drop at s)) (ik-place p scratch i j s)
   unfolding fetch-ik-state ik-place fetch and-then map-answer
   ik-is = rw ik-size (go (property-place p scratch i s))
     where
       go : (x : Answer ℕ)
-          → and-then x (λ at. map-answer (λ at. ik-state .decode (drop at s)) (record-place 21 (ik-part s at) j s))
-          ≡ map-answer (λ at. ik-state .decode (drop at s)) (and-then x (λ at. record-place 21 (ik-part s at) j s))
+          → and-then x (λ at. map-answer (λ at. ik-state .decode (drop at s)) (record-place 21 (ik-extent s at) j s))
+          ≡ map-answer (λ at. ik-state .decode (drop at s)) (and-then x (λ at. record-place 21 (ik-extent s at) j s))
       go (declined k) = refl
       go (given at) = refl
 

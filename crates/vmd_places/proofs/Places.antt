@@ -11,12 +11,12 @@ use lib.ListN.{length, getD, take, drop, length-drop}
 use lib.Seq.{take-all}
 use Rattle.vmd_format.specs.Refusal.{outside}
 use Rattle.vmd_format.specs.Answer.{Answer, declined, given, and-then, unless}
-use Rattle.vmd_format.specs.Opening.{Part}
-use Rattle.vmd_format.specs.Fetch.{record-place, property-place, ik-part}
+use Rattle.vmd_format.specs.Opening.{Extent}
+use Rattle.vmd_format.specs.Fetch.{record-place, property-place, ik-extent}
 use Rattle.vmd_format.specs.PlacesLaws.{Holds}
 use Rattle.vmd_places.specs.Meaning.{ik-place}
 
-module _ (size : ℕ) (p : Part) (i : ℕ) (s : List ℕ) where
+module _ (size : ℕ) (p : Extent) (i : ℕ) (s : List ℕ) where
   pub place-past : p .count ≤ i → record-place size p i s ≡ declined outside
   unfolding record-place unless
   place-past h = rw (le-ltb i (p .count) h)
@@ -47,7 +47,7 @@ module _ (size : ℕ) (p : Part) (i : ℕ) (s : List ℕ) where
 pub offset-fits : (i n size : ℕ) → i < n → n < 4294967296 → size ≤ 111 → i * size + size < 18446744073709551616
 offset-fits i n size h k l = omega (arith, mul-le-mul-left i l)
 
-module _ (p : Part) (scratch : List ℕ) (i : ℕ) (s : List ℕ) where
+module _ (p : Extent) (scratch : List ℕ) (i : ℕ) (s : List ℕ) where
   pub property-past : p .count ≤ i → property-place p scratch i s ≡ declined outside
   unfolding property-place unless
   property-past h = rw (le-ltb i (p .count) h)
@@ -78,9 +78,9 @@ module _ (p : Part) (scratch : List ℕ) (i : ℕ) (s : List ℕ) where
   unfolding ik-place and-then
   ik-ends j at e = go (property-place p scratch i s) e
     where
-      go : (x : Answer ℕ) → and-then x (λ at. record-place 21 (ik-part s at) j s) ≡ given at → at + 21 ≤ length s
+      go : (x : Answer ℕ) → and-then x (λ at. record-place 21 (ik-extent s at) j s) ≡ given at → at + 21 ≤ length s
       go (declined k) e = let z : _≡_ {A = ℕ} 0 1 = cc in absurd (omega arith)
-      go (given q) e = place-ends 21 (ik-part s q) j s at e
+      go (given q) e = place-ends 21 (ik-extent s q) j s at e
 
 -- ---- the bytes from a place on
 
@@ -94,14 +94,14 @@ from-there s at = take-all (length s - at) (drop at s) (rw length-drop (omega ar
 
 -- ---- what stands at a place, ends in the file
 
-pub record-holds : (size : ℕ) (p : Part) (i : ℕ) (s : List ℕ) → Holds (λ at. at + size ≤ length s) (record-place size p i s)
+pub record-holds : (size : ℕ) (p : Extent) (i : ℕ) (s : List ℕ) → Holds (λ at. at + size ≤ length s) (record-place size p i s)
 record-holds size p i s = go (record-place size p i s) refl
   where
     go : (x : Answer ℕ) → record-place size p i s ≡ x → Holds (λ at. at + size ≤ length s) x
     go (declined k) e = tt
     go (given at) e = place-ends size p i s at e
 
-pub ik-holds : (p : Part) (scratch : List ℕ) (i j : ℕ) (s : List ℕ) → Holds (λ at. at + 21 ≤ length s) (ik-place p scratch i j s)
+pub ik-holds : (p : Extent) (scratch : List ℕ) (i j : ℕ) (s : List ℕ) → Holds (λ at. at + 21 ≤ length s) (ik-place p scratch i j s)
 ik-holds p scratch i j s = go (ik-place p scratch i j s) refl
   where
     go : (x : Answer ℕ) → ik-place p scratch i j s ≡ x → Holds (λ at. at + 21 ≤ length s) x

@@ -9,7 +9,7 @@ ghost use Prim.Native.Nat.{_+_, _≤_};
 ghost use lib.ListN.{length, take, drop};
 ghost use Rattle.vmd_format.specs.Fetch.{record-place, property-place};
 ghost use Rattle.vmd_format.specs.PlacesLaws.{Holds};
-ghost use Rattle.vmd_base.specs.Meaning.{part-is};
+ghost use Rattle.vmd_base.specs.Meaning.{extent-is};
 ghost use Rattle.vmd_places.specs.Meaning.{place-answer, ik-place};
 ghost use Rattle.vmd_places.specs.Parts.{file-part, part-in, name-in, there};
 
@@ -23,7 +23,7 @@ pub enum VmdPlace {
 // Where record i of a section stands, all of it in the file.
 pub fn place_of(file: &[u8], section: VmdSection, record_size: usize, i: usize) -> VmdPlace
     requires { ⌜ record_size ≤ 111 ⌝ }
-    ensures { λ r. ⌜ place-answer r ≡ record-place record_size (part-is section) i (now (file .entry)) ⌝ }
+    ensures { λ r. ⌜ place-answer r ≡ record-place record_size (extent-is section) i (now (file .entry)) ⌝ }
 {
     let place = section.place;
     if (section.count as usize) <= i {
@@ -42,7 +42,7 @@ pub fn place_of(file: &[u8], section: VmdSection, record_size: usize, i: usize) 
 // Where property frame i stands: the scratch names it. Every call for property frames, IK states and IK names goes through
 // here.
 pub fn place_of_property(file: &[u8], section: VmdSection, scratch: &[u64], i: usize) -> VmdPlace
-    ensures { λ r. ⌜ place-answer r ≡ property-place (part-is section) (now (scratch .entry)) i (now (file .entry)) ⌝ }
+    ensures { λ r. ⌜ place-answer r ≡ property-place (extent-is section) (now (scratch .entry)) i (now (file .entry)) ⌝ }
 {
     if i >= (section.count as usize) {
         return VmdPlace::Refused(VmdRefusal::Outside);
@@ -68,7 +68,7 @@ pub fn place_of_ik_state(
     i: usize,
     j: usize,
 ) -> VmdPlace
-    ensures { λ r. ⌜ place-answer r ≡ ik-place (part-is section) (now (scratch .entry)) i j (now (file .entry)) ⌝ }
+    ensures { λ r. ⌜ place-answer r ≡ ik-place (extent-is section) (now (scratch .entry)) i j (now (file .entry)) ⌝ }
 {
     match place_of_property(file, section, scratch, i) {
         VmdPlace::Refused(k) => VmdPlace::Refused(k),

@@ -10,7 +10,7 @@ use Rattle.vmd_format.specs.Layout.{Layout}
 use Rattle.vmd_format.specs.Refusal.{Refusal, scratch-too-short}
 use Rattle.vmd_format.specs.Answer.{Answer, declined, given, and-then, map-answer, unless}
 use Rattle.vmd_format.specs.Read.{Manner}
-use Rattle.vmd_format.specs.Opening.{Part, Scan, open-file, scratch-if, scratch-after}
+use Rattle.vmd_format.specs.Opening.{Extent, Scan, open-file, scratch-if, scratch-after}
 use Rattle.vmd_format.specs.Places.{scan-file, frame-places, scan-largest, open-scan, scan-scratch}
 use Rattle.vmd_format.specs.OpeningLaws.{open-by-places, scratch-by-places}
 use Rattle.vmd_format.specs.FetchLaws.{places-length}
@@ -35,7 +35,7 @@ module _ {A B : Type 0} {x : Answer A} {y : Answer ℕ} {d : List ℕ → A} {s 
   unfolding map-answer
   refused k e = rw (q .read, e) refl
 
-pub record-read : {A : Type 0} (K : Layout A) (size : ℕ) → K .size ≡ size → (p : Part) (i : ℕ) (s : List ℕ)
+pub record-read : {A : Type 0} (K : Layout A) (size : ℕ) → K .size ≡ size → (p : Extent) (i : ℕ) (s : List ℕ)
     → Read (fetch K p i s) (record-place size p i s) (λ t. K .decode t) s
 unfolding fetch
 record-read K size e p i s = record { read = rw e refl }
@@ -44,7 +44,7 @@ from-there : (s : List ℕ) (at : ℕ) → property-at s at ≡ property-at (dro
 unfolding property-at
 from-there s at = simp (drop-drop, add-zero, zero-add)
 
-pub property-read : (p : Part) (scratch : List ℕ) (i : ℕ) (s : List ℕ)
+pub property-read : (p : Extent) (scratch : List ℕ) (i : ℕ) (s : List ℕ)
     → Read (fetch-property p scratch i s) (property-place p scratch i s) (λ t. property-at t 0) s
 unfolding fetch-property map-answer
 property-read p scratch i s = record { read = go (property-place p scratch i s) }
@@ -53,7 +53,7 @@ property-read p scratch i s = record { read = go (property-place p scratch i s) 
     go (declined k) = refl
     go (given at) = ap given (from-there s at)
 
-pub ik-read : (p : Part) (scratch : List ℕ) (i j : ℕ) (s : List ℕ) → Read (fetch-ik-state p scratch i j s) (ik-place p scratch i j s) (λ t. ik-state .decode t) s
+pub ik-read : (p : Extent) (scratch : List ℕ) (i j : ℕ) (s : List ℕ) → Read (fetch-ik-state p scratch i j s) (ik-place p scratch i j s) (λ t. ik-state .decode t) s
 ik-read p scratch i j s = record { read = ik-is p scratch i j s }
 
 -- ---- opening

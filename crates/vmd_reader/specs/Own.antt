@@ -11,7 +11,7 @@ use Rattle.vmd_format.specs.Answer.{Answer, declined, given, map-answer}
 use Rattle.vmd_format.specs.Records.{IkState, Property, bone, morph, camera, light, self-shadow}
 use Rattle.vmd_format.specs.Read.{Manner}
 use Rattle.vmd_format.specs.Take.{Take, read-take}
-use Rattle.vmd_format.specs.Opening.{Part, Opening, open-file, scratch-after}
+use Rattle.vmd_format.specs.Opening.{Extent, Opening, open-file, scratch-after}
 use Rattle.vmd_format.specs.Fetch.{fetch, or-empty, model-of, fetch-property, fetch-ik-state}
 use Rattle.vmd_format.specs.FetchLaws.{Fetches, FetchesProperties, own-records, head-of, fetches-fields, fetches-part, past-fields, past-part}
 use Rattle.vmd_records.specs.Fields.{bone-fields, morph-fields, camera-fields, light-floats, light-bits, self-shadow-fields, property-fields, ik-fields}
@@ -58,14 +58,14 @@ pub record Calls (s : List ℕ) (o : Opening) (scratch : List ℕ) (t : Take) : 
 
 -- ---- the calls of an accepted file
 
-module _ {A : Type 0} {K : Layout A} {p : Part} {s : List ℕ} {l : List A} (h : Fetches K p s l) where
+module _ {A : Type 0} {K : Layout A} {p : Extent} {s : List ℕ} {l : List A} (h : Fetches K p s l) where
   gives : {B : Type 0} (fields : A → B) → Gives fields l (λ i. map-answer fields (fetch K p i s))
   gives fields = record { own = fetches-fields h fields; past = past-fields h fields }
 
   gives-part : (part : A → List ℕ) → GivesPart part l (λ i. or-empty (map-answer part (fetch K p i s)))
   gives-part part = record { own = fetches-part h part; past = past-part h part }
 
-module _ {p : Part} {scratch s : List ℕ} {l : List Property} (h : FetchesProperties p scratch s l) where
+module _ {p : Extent} {scratch s : List ℕ} {l : List Property} (h : FetchesProperties p scratch s l) where
   gives-frame : Gives (λ x. property-fields (head-of x)) l (λ i. map-answer property-fields (fetch-property p scratch i s))
   unfolding map-answer
   gives-frame = record { own = λ i d k. rw (h .own i d k); past = λ i k. rw (h .past i k) }

@@ -8,7 +8,7 @@ use lib.ListN.{drop}
 use lib.Seq.{drop-drop}
 use Rattle.vmd_format.specs.Bytes.{u32}
 use Rattle.vmd_format.specs.Opening.{Scan}
-use Rattle.vmd_format.specs.Places.{largest-of, next-frame, largest-frame-of, part-largest, scan-largest}
+use Rattle.vmd_format.specs.Places.{largest-of, next-frame, largest-frame-of, extent-largest, scan-largest}
 use Rattle.vmd_records.specs.declared.VmdKind.{VmdKind}
 use Rattle.vmd_records.specs.declared.VmdKind.the-variants as kind
 use Rattle.vmd_records.specs.Kinds.{size-of, frame-at}
@@ -54,5 +54,5 @@ properties-largest s (suc n) at f =
     ∙ rw (add-zero at) (max-assoc (f .largest) (u32 (drop at s)) (largest-frame-of s n (next-frame s at)))
 
 pub frames-largest : (s : List ℕ) (x : Scan) → frames-of s x .largest ≡ scan-largest s x
-unfolding frames-of scan-largest part-largest
+unfolding frames-of scan-largest extent-largest
 frames-largest s x = simp (properties-largest, records-largest, zero-max, max-assoc)

@@ -13,10 +13,10 @@ use lib.Seq.{take-suc-set, drop-set-lt}
 use Rattle.vmd_format.specs.Bytes.{u32}
 use Rattle.vmd_format.specs.Refusal.{Refusal, file-ends-early}
 use Rattle.vmd_format.specs.Answer.{Answer, declined, given, and-then, map-answer}
-use Rattle.vmd_format.specs.Read.{refused, Oversized, refuse, Manner}
-use Rattle.vmd_format.specs.Take.{header, sections}
+use Rattle.vmd_format.specs.Read.{Oversized, refuse, Manner}
+use Rattle.vmd_format.specs.Take.{sections}
 use Rattle.vmd_format.specs.Fetch.{model-of}
-use Rattle.vmd_format.specs.Places.{header-place, HeaderPlaces, header-places, Span, part-in, no-span, records-span, count-span, span, optional-if, optional-span, walk, scan-sections, next-frame, frame-places, Reaches}
+use Rattle.vmd_format.specs.Places.{header-place, HeaderPlaces, header-places, Span, extent-in, no-span, records-span, count-span, span, optional-if, optional-span, walk, scan-sections, next-frame, frame-places, Reaches}
 use Rattle.vmd_format.specs.PlacesLaws.{Holds, Within, optional-within, walk-next}
 use Rattle.vmd_format.specs.ScanLaws.{Headed, headed, no-model}
 use Rattle.vmd_places.specs.Parts.{file-part, Cuts, name-in}
@@ -129,32 +129,32 @@ and-then-given a f = refl
 
 pub scan-steps : (m : Manner) (s : List ℕ) (at : ℕ)
     → scan-sections m s at ≡ and-then (scan-front (m .oversized) s at) (λ f. and-then (scan-back (m .oversized) s (f .next)) (scan-end (m .over) s f))
-unfolding scan-sections scan-front scan-back scan-end part-in
+unfolding scan-sections scan-front scan-back scan-end extent-in
 scan-steps m s at = simp (and-then-assoc, and-then-given)
 
 -- the property frames begin in the file
 pub back-starts : (o : Oversized) (s : List ℕ) (at : ℕ) (b : Back) → scan-back o s at ≡ given b → b .properties .place ≤ length s
-unfolding scan-back and-then part-in
+unfolding scan-back and-then extent-in
 back-starts o s at b e = rw e at (one (optional-span o 28 s at))
   where
     Starts : Answer Back → Type 0
     Starts = Holds (λ b. b .properties .place ≤ length s)
 
     three : (x : Answer Span) (l d : Span) → Holds (Within 9 s) x
-        → Starts (and-then x (λ p. given (record { lights = part-in l; self-shadows = part-in d; properties = part-in p })))
+        → Starts (and-then x (λ p. given (record { lights = extent-in l; self-shadows = extent-in d; properties = extent-in p })))
     three (declined k) l d w = tt
     three (given p) l d w = w .place
 
     two : (x : Answer Span) (l : Span)
         → Starts (and-then x (λ d. and-then (optional-span (refuse file-ends-early) 9 s (d .next)) λ p.
-        given (record { lights = part-in l; self-shadows = part-in d; properties = part-in p })))
+        given (record { lights = extent-in l; self-shadows = extent-in d; properties = extent-in p })))
     two (declined k) l = tt
     two (given d) l = three (optional-span (refuse file-ends-early) 9 s (d .next)) l d (optional-within (refuse file-ends-early) 9 s (d .next))
 
     one : (x : Answer Span)
         → Starts (and-then x (λ l. and-then (optional-span o 9 s (l .next)) λ d.
         and-then (optional-span (refuse file-ends-early) 9 s (d .next)) λ p.
-        given (record { lights = part-in l; self-shadows = part-in d; properties = part-in p })))
+        given (record { lights = extent-in l; self-shadows = extent-in d; properties = extent-in p })))
     one (declined k) = tt
     one (given l) = two (optional-span o 9 s (l .next)) l
 

@@ -4,7 +4,7 @@ use Prim.Native.Nat.{ℕ, zero, suc, _+_, max}
 use mathlib.Core.List.{List}
 use lib.ListN.{drop}
 use Rattle.vmd_format.specs.Bytes.{u32}
-use Rattle.vmd_format.specs.Opening.{Part, Scan}
+use Rattle.vmd_format.specs.Opening.{Extent, Scan}
 use Rattle.vmd_format.specs.Places.{next-frame}
 use Rattle.vmd_records.specs.declared.VmdKind.{VmdKind}
 use Rattle.vmd_records.specs.declared.VmdKind.the-variants as kind
@@ -23,10 +23,10 @@ unfoldable pub seen : (ℕ → ℕ) → ℕ → List ℕ → ℕ → ℕ → Vmd
 seen next offset s zero at f = f
 seen next offset s (suc n) at f = seen next offset s n (next at) (with-frame f (u32 (drop (at + offset) s)))
 
-abbrev pub with-records : VmdKind → List ℕ → Part → VmdFrames → VmdFrames
+abbrev pub with-records : VmdKind → List ℕ → Extent → VmdFrames → VmdFrames
 with-records k s p f = seen (λ at. at + size-of k) (frame-at k) s (p .count) (p .place) f
 
-abbrev pub with-properties : List ℕ → Part → VmdFrames → VmdFrames
+abbrev pub with-properties : List ℕ → Extent → VmdFrames → VmdFrames
 with-properties s p f = seen (next-frame s) 0 s (p .count) (p .place) f
 
 -- the frames of all six sections

@@ -1,5 +1,5 @@
 -- What the types of the code mean in the terms of the format, by cases. Definitions only.
-use Rattle.vmd_base.specs.Meaning.{refusal-of, part-is}
+use Rattle.vmd_base.specs.Meaning.{refusal-of, extent-is}
 use Rattle.vmd_format.specs.Answer.{Answer, declined, given}
 use Rattle.vmd_format.specs.Read as format
 use Rattle.vmd_format.specs.Opening.{Scan}
@@ -31,12 +31,12 @@ use Rattle.vmd_scan.specs.declared.BackAnswer.the-variants as back
 
 abbrev pub scan-is : VmdSections → Scan
 scan-is x = record {
-  bones = part-is (x .bones);
-  morphs = part-is (x .morphs);
-  cameras = part-is (x .cameras);
-  lights = part-is (x .lights);
-  self-shadows = part-is (x .«self_shadows»);
-  properties = part-is (x .properties);
+  bones = extent-is (x .bones);
+  morphs = extent-is (x .morphs);
+  cameras = extent-is (x .cameras);
+  lights = extent-is (x .lights);
+  self-shadows = extent-is (x .«self_shadows»);
+  properties = extent-is (x .properties);
   ik-states = x .«ik_states»;
 }
 
@@ -78,14 +78,14 @@ scan-answer (scan.Refused k) = declined (refusal-of k)
 scan-answer (scan.Scanned x) = given (scan-is x)
 
 abbrev pub front-is : FrontSections → Front
-front-is x = record { bones = part-is (x .bones); morphs = part-is (x .morphs); cameras = part-is (x .cameras); next = x .next .pos }
+front-is x = record { bones = extent-is (x .bones); morphs = extent-is (x .morphs); cameras = extent-is (x .cameras); next = x .next .pos }
 
 abbrev pub front-answer : FrontAnswer → Answer Front
 front-answer (front.Refused k) = declined (refusal-of k)
 front-answer (front.Found x) = given (front-is x)
 
 abbrev pub back-is : BackSections → Back
-back-is x = record { lights = part-is (x .lights); self-shadows = part-is (x .«self_shadows»); properties = part-is (x .properties) }
+back-is x = record { lights = extent-is (x .lights); self-shadows = extent-is (x .«self_shadows»); properties = extent-is (x .properties) }
 
 abbrev pub back-answer : BackAnswer → Answer Back
 back-answer (back.Refused k) = declined (refusal-of k)

@@ -9,8 +9,8 @@ use Rattle.vmd_format.specs.Bytes.{u32}
 use Rattle.vmd_format.specs.Refusal.{file-ends-early}
 use Rattle.vmd_format.specs.Answer.{Answer, declined, given, and-then, map-answer}
 use Rattle.vmd_format.specs.Read.{Oversized, refuse, BytesOver}
-use Rattle.vmd_format.specs.Opening.{Part, Scan}
-use Rattle.vmd_format.specs.Places.{Span, part-in, over-span, optional-span, span, walk, over-if}
+use Rattle.vmd_format.specs.Opening.{Extent, Scan}
+use Rattle.vmd_format.specs.Places.{Span, extent-in, over-span, optional-span, span, walk, over-if}
 
 -- ---- numbers
 
@@ -52,29 +52,29 @@ counted-span o size s x = counted-if (leb (x .value * size) (length s - x .next)
 -- ---- three sections, three more, and the end
 
 pub record Front : Type 0 where
-  pub bones : Part
-  pub morphs : Part
-  pub cameras : Part
+  pub bones : Extent
+  pub morphs : Extent
+  pub cameras : Extent
   pub next : ℕ
 
 pub record Back : Type 0 where
-  pub lights : Part
-  pub self-shadows : Part
-  pub properties : Part
+  pub lights : Extent
+  pub self-shadows : Extent
+  pub properties : Extent
 
 unfoldable pub scan-front : Oversized → List ℕ → ℕ → Answer Front
 scan-front o s at =
     and-then (span (refuse file-ends-early) 111 s at) λ b.
     and-then (optional-span (refuse file-ends-early) 23 s (b .next)) λ f.
     and-then (optional-span o 61 s (f .next)) λ c.
-    given (record { bones = part-in b; morphs = part-in f; cameras = part-in c; next = c .next })
+    given (record { bones = extent-in b; morphs = extent-in f; cameras = extent-in c; next = c .next })
 
 unfoldable pub scan-back : Oversized → List ℕ → ℕ → Answer Back
 scan-back o s at =
     and-then (optional-span o 28 s at) λ l.
     and-then (optional-span o 9 s (l .next)) λ d.
     and-then (optional-span (refuse file-ends-early) 9 s (d .next)) λ p.
-    given (record { lights = part-in l; self-shadows = part-in d; properties = part-in p })
+    given (record { lights = extent-in l; self-shadows = extent-in d; properties = extent-in p })
 
 abbrev pub scan-parts : Front → Back → ℕ → Scan
 scan-parts f b n = record {

@@ -25,8 +25,8 @@ ghost use lib.ListN.{length, drop};
 ghost use Rattle.vmd_format.specs.Answer.{given, map-answer};
 ghost use Rattle.vmd_format.specs.Fetch.{model-of};
 ghost use Rattle.vmd_format.specs.Places.{header-place, header-places, no-span, over-span, span, optional-span, walk, over-if, scan-sections, scan-file, next-frame, frame-places, Reaches};
-ghost use Rattle.vmd_format.specs.ScanLaws.{PartWithin, Inside};
-ghost use Rattle.vmd_base.specs.Meaning.{manner-of, part-is};
+ghost use Rattle.vmd_format.specs.ScanLaws.{ExtentWithin, Inside};
+ghost use Rattle.vmd_base.specs.Meaning.{manner-of, extent-is};
 ghost use Rattle.vmd_records.specs.Kinds.{size-of};
 ghost use Rattle.vmd_places.specs.Parts.{file-part};
 ghost use Rattle.vmd_scan.specs.Stages.{read-number, optional-number, counted-span, scan-front, scan-back, scan-parts, scan-end};
@@ -414,8 +414,8 @@ impl VmdFrames {
 
 // The frames of a section's records, after others.
 fn with_records(file: &[u8], kind: VmdKind, section: VmdSection, before: VmdFrames) -> VmdFrames
-    requires { ⌜ PartWithin (size-of kind) (now file) (part-is section) ⌝ }
-    ensures { λ r. ⌜ r ≡ with-records kind (now (file .entry)) (part-is section) before ⌝ }
+    requires { ⌜ ExtentWithin (size-of kind) (now file) (extent-is section) ⌝ }
+    ensures { λ r. ⌜ r ≡ with-records kind (now (file .entry)) (extent-is section) before ⌝ }
 {
     let size = kind.size();
     let offset = kind.frame_offset();
@@ -434,7 +434,7 @@ fn with_records(file: &[u8], kind: VmdKind, section: VmdSection, before: VmdFram
 // The property frames', after others.
 fn with_properties(file: &[u8], section: VmdSection, before: VmdFrames) -> VmdFrames
     requires { ⌜ Reaches (now file) (section .count) (section .place) ⌝ }
-    ensures { λ r. ⌜ r ≡ with-properties (now (file .entry)) (part-is section) before ⌝ }
+    ensures { λ r. ⌜ r ≡ with-properties (now (file .entry)) (extent-is section) before ⌝ }
 {
     let n = section.count as usize;
     let mut frames = before;

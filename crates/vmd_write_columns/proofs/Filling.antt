@@ -17,7 +17,7 @@ use Rattle.vmd_format.specs.Read.{write-all}
 use Rattle.vmd_format.specs.Rewriting.{padded-front}
 use Rattle.vmd_format.specs.Parts.{NameTable, Check, passes, _next_, each, finite, all-finite, names-of, upto}
 use Rattle.vmd_format.specs.PartsLaws.{all-at, upto-length, next-passes, need-passes, each-passes}
-use Rattle.vmd_bytes.specs.Slices.{splice, part}
+use Rattle.vmd_bytes.specs.Slices.{splice, run}
 use Rattle.vmd_bytes.proofs.Laws.{part-cons}
 use Rattle.vmd_bytes.specs.Written.{Room, Wrote}
 use Rattle.vmd_bytes.proofs.Writes.{less-one, Filling, filling-start, filling-turn, filling-end}
@@ -84,13 +84,13 @@ morph-named {s} {l} {x} w g i h e = named-from s l (getD x i 0) (g .table) (g .n
 -- ---- the bytes of a record
 
 three : (l : List ℕ) (k : ℕ) → k + 3 ≤ length l → take 3 (drop k l) ≡ getD l k 0 ∷ getD l (k + 1) 0 ∷ getD l (k + 2) 0 ∷ []
-unfolding part
+unfolding run
 three l k h =
     let e : k + 1 + 1 ≡ k + 2 = omega arith in
     part-cons l k 2 (omega arith) ∙ rw (part-cons l (k + 1) 1 (omega arith), part-cons l (k + 1 + 1) 0 (omega arith), e)
 
 four : (l : List ℕ) (k : ℕ) → k + 4 ≤ length l → take 4 (drop k l) ≡ getD l k 0 ∷ getD l (k + 1) 0 ∷ getD l (k + 2) 0 ∷ getD l (k + 3) 0 ∷ []
-unfolding part
+unfolding run
 four l k h =
     let e : k + 1 + 1 ≡ k + 2 = omega arith in
     let f : k + 1 + 1 + 1 ≡ k + 3 = omega arith in

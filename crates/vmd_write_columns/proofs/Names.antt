@@ -16,7 +16,7 @@ use Rattle.vmd_format.specs.BytesLaws.{padded-length}
 use Rattle.vmd_format.specs.Refusal.{name-unfit}
 use Rattle.vmd_format.specs.Parts.{passes, each, names-from, names-of, table-right, name-check}
 use Rattle.vmd_format.specs.PartsLaws.{all-at, next-passes, need-passes, each-passes}
-use Rattle.vmd_bytes.specs.Slices.{splice, part}
+use Rattle.vmd_bytes.specs.Slices.{splice, run}
 use Rattle.vmd_bytes.specs.Words.{digits, repeated}
 use Rattle.vmd_bytes.proofs.Laws.{splice-append-at, splice-over-end, length-part, take-part, drop-part, length-u32-bytes}
 use Rattle.vmd_bytes.proofs.Words.{length-digits}
@@ -87,22 +87,22 @@ padded-cut (suc m) [] = refl
 padded-cut (suc m) (b ∷ s) = ap (λ (t : List ℕ). b ∷ t) (padded-cut m s)
 
 module _ (s : List ℕ) (at n : ℕ) where
-  first-word : padded 8 (part s at (n - (n - 8))) ≡ padded 8 (part s at n)
+  first-word : padded 8 (run s at (n - (n - 8))) ≡ padded 8 (run s at n)
   first-word =
       ⊎-elim
       (λ (h : n - 8 ≡ 0). let q : n - (n - 8) ≡ n = omega arith in rw q)
-      (λ (h : 0 < n - 8). let q : n - (n - 8) ≡ 8 = omega arith in rw q (sym (ap (padded 8) (take-part s at n 8 (omega arith))) ∙ padded-cut 8 (part s at n)))
+      (λ (h : 0 < n - 8). let q : n - (n - 8) ≡ 8 = omega arith in rw q (sym (ap (padded 8) (take-part s at n 8 (omega arith))) ∙ padded-cut 8 (run s at n)))
       (eq-zero-or-pos (n - 8))
 
-  two-words : n ≤ 16 → padded 8 (take (n - (n - 8)) (part s at 8)) ++ padded 8 (take (n - 8) (part s (at + 8) 8)) ≡ padded 16 (part s at n)
+  two-words : n ≤ 16 → padded 8 (take (n - (n - 8)) (run s at 8)) ++ padded 8 (take (n - 8) (run s (at + 8) 8)) ≡ padded 16 (run s at n)
   two-words h =
       rw (take-part s at 8 (n - (n - 8)) (omega arith), take-part s (at + 8) 8 (n - 8) (omega arith), first-word)
-      (sym (padded-append 8 8 (part s at n) ∙ ap (λ (t : List ℕ). padded 8 (part s at n) ++ padded 8 t) (drop-part s at n 8)))
+      (sym (padded-append 8 8 (run s at n) ∙ ap (λ (t : List ℕ). padded 8 (run s at n) ++ padded 8 t) (drop-part s at n 8)))
 
 pub name-written : {p : ℕ} {a o : List ℕ} (x y u v : ℕ) (s : List ℕ) (at n : ℕ) (l : List ℕ) (to : ℕ) → n ≤ 15 → to + 16 ≤ length l → p ≡ n - 8
-    → digits 8 x ≡ part s at 8 → digits 8 u ≡ padded 8 (take (n - p) (digits 8 x)) → digits 8 y ≡ part s (at + 8) 8 → digits 8 v ≡ padded 8 (take p (digits 8 y))
+    → digits 8 x ≡ run s at 8 → digits 8 u ≡ padded 8 (take (n - p) (digits 8 x)) → digits 8 y ≡ run s (at + 8) 8 → digits 8 v ≡ padded 8 (take p (digits 8 y))
     → a ≡ splice l to (digits 8 u) → o ≡ splice a (to + 8) (digits 8 v)
-    → o ≡ splice l to (padded 16 (part s at n))
+    → o ≡ splice l to (padded 16 (run s at n))
 name-written x y u v s at n l to h r e ex eu ey ev ea eo =
     eo
     ∙ rw (ea, splice-append-at l to (digits 8 u) (digits 8 v) 8 (length-digits 8 u) (omega arith), eu, ev, ex, ey, e)
@@ -142,14 +142,14 @@ pub record Named (s l : List ℕ) (j start : ℕ) : Type 0 where
   pub begins : start ≤ getD l j 0
   pub within : getD l j 0 ≤ length s
   pub short : getD l j 0 - start ≤ 15
-  pub is : part s start (getD l j 0 - start) ≡ getD (names-of (table-of s l)) j []
+  pub is : run s start (getD l j 0 - start) ≡ getD (names-of (table-of s l)) j []
 
 pub named-from : {start : ℕ} (s l : List ℕ) (j : ℕ) → table-right (table-of s l) ≡ true → each (name-check 15) (names-of (table-of s l)) ≡ passes → j < length l
     → start ≡ getD {A = ℕ} (0 ∷ l) j 0 → Named s l j start
-unfolding part
+unfolding run
 named-from {start} s l j t c h e =
     let b = table-between s l j t h in
-    let q : part s start (getD l j 0 - start) ≡ getD (names-of (table-of s l)) j [] = rw e (table-name-there s l j h) in
+    let q : run s start (getD l j 0 - start) ≡ getD (names-of (table-of s l)) j [] = rw e (table-name-there s l j h) in
     record {
       begins = omega arith;
       within = b .1;

@@ -11,7 +11,7 @@ use Rattle.vmd_format.specs.Bytes.{u32-bytes, padded}
 use Rattle.vmd_format.specs.BytesLaws.{padded-length}
 use Rattle.vmd_format.specs.Read.{write-all}
 use Rattle.vmd_format.specs.Parts.{finite, all-finite}
-use Rattle.vmd_bytes.specs.Slices.{splice, part}
+use Rattle.vmd_bytes.specs.Slices.{splice, run}
 use Rattle.vmd_bytes.proofs.Laws.{splice-append-at, length-u32-bytes, length-part, part-add}
 use Rattle.vmd_bytes.proofs.Writes.{Filling, filling-start, filling-turn, filling-end}
 use Rattle.vmd_check_columns.specs.Meaning.{bits}
@@ -74,9 +74,9 @@ module _ {xs : List Float} {l : List ℕ} {to : ℕ} where
 -- ---- copies one after another
 
 pub copied-on : {x o : List ℕ} (s : List ℕ) (at : ℕ) (l : List ℕ) (to n m : ℕ) → at + n ≤ length s → to + n ≤ length l
-    → x ≡ splice l to (part s at n) → o ≡ splice x (to + n) (part s (at + n) m) → o ≡ splice l to (part s at (n + m))
+    → x ≡ splice l to (run s at n) → o ≡ splice x (to + n) (run s (at + n) m) → o ≡ splice l to (run s at (n + m))
 copied-on s at l to n m h r e f =
-    f ∙ rw e (splice-append-at l to (part s at n) (part s (at + n) m) n (length-part s at n h) r ∙ ap (splice l to) (sym (part-add s at n m)))
+    f ∙ rw e (splice-append-at l to (run s at n) (run s (at + n) m) n (length-part s at n h) r ∙ ap (splice l to) (sym (part-add s at n m)))
 
 -- ---- fields one after another
 
@@ -97,10 +97,10 @@ morph-written s v w l to h e f q g = named-at s v (u32-bytes (toBits binary32 w)
 
 pub bone-written : {x y z w o : List ℕ} (s : List ℕ) (v : ℕ) (t r a : List ℕ) (i : ℕ) (l : List ℕ) (to : ℕ) → BoneThere t r a i → to + 111 ≤ length l
     → x ≡ splice l to (padded 16 s) → y ≡ splice x (to + 15) (u32-bytes v) → z ≡ splice y (to + 19) (write-all u32-bytes (take 3 (drop (3 * i) t)))
-    → w ≡ splice z (to + 31) (write-all u32-bytes (take 4 (drop (4 * i) r))) → o ≡ splice w (to + 47) (part a (64 * i) 64)
+    → w ≡ splice z (to + 31) (write-all u32-bytes (take 4 (drop (4 * i) r))) → o ≡ splice w (to + 47) (run a (64 * i) 64)
     → length y ≡ length l
     → o ≡ splice l to (bone-bytes s v t r a i)
-unfolding bone-bytes part
+unfolding bone-bytes run
 bone-written {y = y} s v t r a i l to b h e f g j k n =
     let u : List ℕ = write-all u32-bytes (take 3 (drop (3 * i) t)) in
     let m : List ℕ = write-all u32-bytes (take 4 (drop (4 * i) r)) in

@@ -6,8 +6,8 @@ use mathlib.Core.List.{List, [], _++_}
 use lib.ListN.{length, getD, take, drop}
 use Rattle.vmd_format.specs.Bytes.{u32-bytes, padded}
 use Rattle.vmd_format.specs.Read.{write-all}
-use Rattle.vmd_format.specs.Records.{Bone, Morph, bone}
-use Rattle.vmd_format.specs.Parts.{NameTable, passes, each, finite, all-finite, names-of, frames, upto, table-right, name-check}
+use Rattle.vmd_format.specs.Records.{Bone, Morph}
+use Rattle.vmd_format.specs.Parts.{NameTable, passes, each, all-finite, names-of, frames, upto, table-right, name-check}
 use Rattle.vmd_check_columns.specs.Stages.{bone-right, morph-right}
 
 -- the floats and the interpolation bytes of the bone at an index are there, and its floats are finite

@@ -4,7 +4,7 @@ use vmd_records::VmdParsedMorphFrame;
 ghost use mathlib.Core.Path.{_≡_};
 ghost use mathlib.Core.Bool.{true, cond};
 ghost use mathlib.Core.List.{_∷_, _++_, map};
-ghost use Prim.Native.Nat.{_+_, _-_, _*_, _/_, _≤_, _<_};
+ghost use Prim.Native.Nat.{_+_, _-_, _*_, _≤_, _<_};
 ghost use lib.ListN.{length, getD, take, drop};
 ghost use lib.Dec.{eqb};
 ghost use lib.Ieee.{binary32, toBits};
@@ -13,7 +13,7 @@ ghost use Rattle.vmd_format.specs.Records.{bone, morph};
 ghost use Rattle.vmd_format.specs.Read.{write-all};
 ghost use Rattle.vmd_format.specs.Parts.{frames, finite, all-finite, upto};
 ghost use Rattle.vmd_format.specs.Answer.{left};
-ghost use Rattle.vmd_bytes.specs.Slices.{splice, part};
+ghost use Rattle.vmd_bytes.specs.Slices.{splice, run};
 ghost use Rattle.vmd_bytes.specs.Words.{digits};
 ghost use Rattle.vmd_check_tables.specs.Meaning.{table-of};
 ghost use Rattle.vmd_check_columns.specs.Meaning.{bits};
@@ -54,7 +54,7 @@ fn past_word(n: usize) -> usize
 // on the length, but where the table has fewer than two words from that place on.
 fn write_table_name(bytes: &[u8], start: usize, n: usize, out: &mut [u8], to: usize)
     requires { ⌜ (n ≤ 15) × (start + n ≤ length (now bytes)) × (to + 16 ≤ length (now out)) ⌝ }
-    ensures { λ _. ⌜ now (out .exit) ≡ splice (now (out .entry)) to (padded 16 (part (now (bytes .entry)) start n)) ⌝ }
+    ensures { λ _. ⌜ now (out .exit) ≡ splice (now (out .entry)) to (padded 16 (run (now (bytes .entry)) start n)) ⌝ }
 {
     if bytes.len() - start < NAME_WORDS {
         let end = start + n;
@@ -111,7 +111,7 @@ fn write_floats(xs: &[f32], at: usize, n: usize, out: &mut [u8], to: usize)
 // Copies four words.
 fn copy_four_words(src: &[u8], at: usize, out: &mut [u8], to: usize)
     requires { ⌜ (at + 32 ≤ length (now src)) × (to + 32 ≤ length (now out)) ⌝ }
-    ensures { λ _. ⌜ now (out .exit) ≡ splice (now (out .entry)) to (part (now (src .entry)) at 32) ⌝ }
+    ensures { λ _. ⌜ now (out .exit) ≡ splice (now (out .entry)) to (run (now (src .entry)) at 32) ⌝ }
 {
     vmd_bytes::copy_word(src, at, out, to);
     vmd_bytes::copy_word(src, at + 8, out, to + 8);
@@ -122,7 +122,7 @@ fn copy_four_words(src: &[u8], at: usize, out: &mut [u8], to: usize)
 // Copies the 64 interpolation bytes of a bone by words: the compiler leaves a loop over so few bytes as single bytes.
 fn copy_interpolation(src: &[u8], at: usize, out: &mut [u8], to: usize)
     requires { ⌜ (at + 64 ≤ length (now src)) × (to + 64 ≤ length (now out)) ⌝ }
-    ensures { λ _. ⌜ now (out .exit) ≡ splice (now (out .entry)) to (part (now (src .entry)) at 64) ⌝ }
+    ensures { λ _. ⌜ now (out .exit) ≡ splice (now (out .entry)) to (run (now (src .entry)) at 64) ⌝ }
 {
     copy_four_words(src, at, out, to);
     copy_four_words(src, at + 32, out, to + 32);
@@ -143,7 +143,7 @@ fn write_bone_frame(
     to: usize,
 )
     requires { ⌜ (n ≤ 15) × (start + n ≤ length (now names)) × BoneThere (bits (now translations)) (bits (now rotations)) (now interpolations) i × (to + 111 ≤ length (now out)) ⌝ }
-    ensures { λ _. ⌜ now (out .exit) ≡ splice (now (out .entry)) to (bone-bytes (part (now (names .entry)) start n) frame (bits (now (translations .entry))) (bits (now (rotations .entry))) (now (interpolations .entry)) i) ⌝ }
+    ensures { λ _. ⌜ now (out .exit) ≡ splice (now (out .entry)) to (bone-bytes (run (now (names .entry)) start n) frame (bits (now (translations .entry))) (bits (now (rotations .entry))) (now (interpolations .entry)) i) ⌝ }
 {
     write_table_name(names, start, n, out, to);
     vmd_bytes::write_u32_le(out, to + VmdParsedBoneFrame::FRAME_OFFSET, frame);
@@ -181,7 +181,7 @@ fn write_morph_frame(
     to: usize,
 )
     requires { ⌜ (n ≤ 15) × (start + n ≤ length (now names)) × (finite (toBits binary32 weight) ≡ true) × (to + 23 ≤ length (now out)) ⌝ }
-    ensures { λ _. ⌜ now (out .exit) ≡ splice (now (out .entry)) to (padded 15 (part (now (names .entry)) start n) ++ (u32-bytes frame ++ u32-bytes (toBits binary32 weight))) ⌝ }
+    ensures { λ _. ⌜ now (out .exit) ≡ splice (now (out .entry)) to (padded 15 (run (now (names .entry)) start n) ++ (u32-bytes frame ++ u32-bytes (toBits binary32 weight))) ⌝ }
 {
     write_table_name(names, start, n, out, to);
     vmd_bytes::write_u32_le(out, to + VmdParsedMorphFrame::FRAME_OFFSET, frame);

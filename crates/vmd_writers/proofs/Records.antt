@@ -13,7 +13,7 @@ use Rattle.vmd_format.specs.Read.{table, write-all}
 use Rattle.vmd_format.specs.Rewriting.{Rewrites}
 use Rattle.vmd_format.specs.SizedLaws.{Sized, section-length, table-first, table-none, section-stays}
 use Rattle.vmd_format.specs.PlacesLaws.{table-length}
-use Rattle.vmd_bytes.specs.Slices.{splice, part}
+use Rattle.vmd_bytes.specs.Slices.{splice, run}
 use Rattle.vmd_bytes.specs.Written.{Room, Wrote}
 use Rattle.vmd_bytes.proofs.Laws.{splice-snoc-at, length-part, name-wider}
 use Rattle.vmd_bytes.proofs.Writes.{less-one, Filling, filling-start, filling-turn, filling-end}
@@ -21,9 +21,9 @@ use Rattle.vmd_bytes.proofs.Writes.{less-one, Filling, filling-start, filling-t
 -- ---- one record
 
 -- a copy through an array: what is written at its front is what is read there
-pub through : {m o : List ℕ} (r s l : List ℕ) (at to n : ℕ) → at + n ≤ length s → m ≡ splice r 0 (part s at n) → o ≡ splice l to (part m 0 n) → o ≡ splice l to (part s at n)
-unfolding splice part
-through r s l at to n h e f = f ∙ rw (e, take-at (part s at n) (drop (0 + length (part s at n)) r) n (length-part s at n h))
+pub through : {m o : List ℕ} (r s l : List ℕ) (at to n : ℕ) → at + n ≤ length s → m ≡ splice r 0 (run s at n) → o ≡ splice l to (run m 0 n) → o ≡ splice l to (run s at n)
+unfolding splice run
+through r s l at to n h e f = f ∙ rw (e, take-at (run s at n) (drop (0 + length (run s at n)) r) n (length-part s at n h))
 
 module _ {A : Type 0} {K : Layout A} (s l : List ℕ) (at to : ℕ) (b : Bytes s) where
   rewritten : (w : ℕ) (f : List ℕ → List ℕ) → Rewrites K w f → at + w ≤ length s → K .encode (K .decode (drop at s)) ≡ f (drop at s)
@@ -31,28 +31,28 @@ module _ {A : Type 0} {K : Layout A} (s l : List ℕ) (at to : ℕ) (b : Bytes s
 
   -- bytes that stay are copied
   pub copied : {o : List ℕ} (w : ℕ) → Rewrites K w (take w) → at + w ≤ length s
-      → o ≡ splice l to (part s at w) → o ≡ splice l to (K .encode (K .decode (drop at s)))
-  unfolding part
+      → o ≡ splice l to (run s at w) → o ≡ splice l to (K .encode (K .decode (drop at s)))
+  unfolding run
   copied w r h e = e ∙ ap (splice l to) (sym (rewritten w (take w) r h))
 
   -- a name is written one byte too wide, and then the n bytes after it
   pub named : {m o : List ℕ} (w n : ℕ) → Rewrites K (w + n) (λ s. padded w (before-zero (take w s)) ++ take n (drop w s))
       → 1 ≤ n → at + (w + n) ≤ length s → to + (w + n) ≤ length l
-      → m ≡ splice l to (padded (w + 1) (before-zero (part s at (w + 1)))) → o ≡ splice m (to + w) (part s (at + w) n)
+      → m ≡ splice l to (padded (w + 1) (before-zero (run s at (w + 1)))) → o ≡ splice m (to + w) (run s (at + w) n)
       → o ≡ splice l to (K .encode (K .decode (drop at s)))
-  unfolding part
+  unfolding run
   named w n r h hs hl e f =
-      let k : length (part s (at + w) n) ≡ n = length-part s (at + w) n (omega arith) in
-      f ∙ rw e (name-wider s l (part s (at + w) n) at to w 1 (omega arith) (omega arith) (omega arith) ∙ rw (rewritten (w + n) _ r hs, drop-drop))
+      let k : length (run s (at + w) n) ≡ n = length-part s (at + w) n (omega arith) in
+      f ∙ rw e (name-wider s l (run s (at + w) n) at to w 1 (omega arith) (omega arith) (omega arith) ∙ rw (rewritten (w + n) _ r hs, drop-drop))
 
   -- w bytes are written, and then a flag
   pub flagged : {m : List ℕ} {v : ℕ} (w : ℕ) (f : List ℕ → List ℕ) (g : ℕ → ℕ) → Rewrites K (w + 1) (λ s. f (take w s) ++ (g (getD (drop w s) 0 0) ∷ []))
-      → length (f (part s at w)) ≡ w → at + (w + 1) ≤ length s → to + (w + 1) ≤ length l
-      → m ≡ splice l to (f (part s at w)) → v ≡ g (getD s (at + w) 0)
+      → length (f (run s at w)) ≡ w → at + (w + 1) ≤ length s → to + (w + 1) ≤ length l
+      → m ≡ splice l to (f (run s at w)) → v ≡ g (getD s (at + w) 0)
       → set m (to + w) v ≡ splice l to (K .encode (K .decode (drop at s)))
-  unfolding part
+  unfolding run
   flagged w f g r k hs hl e q =
-      rw (e, q) (splice-snoc-at l to (f (part s at w)) w (g (getD s (at + w) 0)) k (omega arith) ∙ rw (rewritten (w + 1) _ r hs, drop-drop, getD-drop, add-zero))
+      rw (e, q) (splice-snoc-at l to (f (run s at w)) w (g (getD s (at + w) 0)) k (omega arith) ∙ rw (rewritten (w + 1) _ r hs, drop-drop, getD-drop, add-zero))
 
 -- ---- records one after another
 
@@ -84,9 +84,9 @@ module _ {A : Type 0} {K : Layout A} {k : ℕ} (z : Sized K k) (s l : List ℕ) 
   pub section-room : Room l to (write-all (K .encode) (table K n (drop at s))) → to + n * k ≤ length l
   section-room r = omega (arith, r .room, section-length z n (drop at s))
 
-  pub section-copied : {o : List ℕ} → Bytes s → Rewrites K k (take k) → o ≡ splice l to (part s at (n * k))
+  pub section-copied : {o : List ℕ} → Bytes s → Rewrites K k (take k) → o ≡ splice l to (run s at (n * k))
       → Wrote l to (write-all (K .encode) (table K n (drop at s))) o (to + n * k)
-  unfolding part
+  unfolding run
   section-copied b r e = record {
     holds = e ∙ ap (splice l to) (sym (section-stays r n (drop at s) (bytes-drop at s b) (rw length-drop (omega arith))));
     ends = ap (λ i. to + i) (sym (section-length z n (drop at s)));

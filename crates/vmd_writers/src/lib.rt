@@ -12,7 +12,7 @@ ghost use Prim.Native.Nat.{_+_, _-_, _*_, _≤_};
 ghost use lib.ListN.{length, drop};
 ghost use Rattle.vmd_format.specs.Records.{bone, morph, camera, light, self-shadow};
 ghost use Rattle.vmd_format.specs.Read.{table, write-all};
-ghost use Rattle.vmd_bytes.specs.Slices.{splice, part};
+ghost use Rattle.vmd_bytes.specs.Slices.{splice, run};
 ghost use Rattle.vmd_bytes.specs.Written.{Room, Wrote};
 ghost use Rattle.vmd_records.specs.Kinds.{layout, size-of};
 
@@ -96,7 +96,7 @@ fn write_morphs(out: &mut [u8], to: usize, src: &[u8], at: usize, n: usize) -> u
 // the copy goes by words and not by bytes.
 fn copy_camera_front(src: &[u8], at: usize, out: &mut [u8], to: usize)
     requires { ⌜ (at + 60 ≤ length (now src)) × (to + 60 ≤ length (now out)) ⌝ }
-    ensures { λ _. ⌜ now (out .exit) ≡ splice (now (out .entry)) to (part (now (src .entry)) at 60) ⌝ }
+    ensures { λ _. ⌜ now (out .exit) ≡ splice (now (out .entry)) to (run (now (src .entry)) at 60) ⌝ }
 {
     let mut front = [0u8; PERSPECTIVE];
     vmd_bytes::copy_bytes(src, at, &mut front, 0, PERSPECTIVE);

@@ -3,13 +3,13 @@ use mathlib.Core.Path.{_≡_, refl}
 use Prim.Native.Nat.{_≤_, _-_}
 use native.Mathlib.Omega.{arith}
 use lib.ListN.{length, length-set}
-use Rattle.vmd_bytes.specs.Slices.{splice, part}
+use Rattle.vmd_bytes.specs.Slices.{splice, run}
 use Rattle.vmd_bytes.proofs.Laws.{splice-nil, part-zero, copy-turn}
 use Rattle.vmd_bytes.proofs.copy_bytes.Statement.{statement}
 use Rattle.vmd_bytes.proofs.copy_bytes.Tie as tie
 
 abbrev Inv-loop : tie.InvT-loop
-Inv-loop src at out₀ to n i₀ out i = (i ≤ n) × (length out ≡ length out₀) × (out ≡ splice out₀ to (part src at i))
+Inv-loop src at out₀ to n i₀ out i = (i ≤ n) × (length out ≡ length out₀) × (out ≡ splice out₀ to (run src at i))
 
 abbrev μ-loop : tie.MeasureT-loop
 μ-loop src at out₀ to n i₀ out i = n - i

@@ -3,13 +3,13 @@ use mathlib.Core.Path.{_∙_}
 use native.Mathlib.Omega.{arith}
 use denote.Ref.{now}
 use borrow.Author.Needs.{needs}
-use Rattle.vmd_bytes.specs.Slices.{part}
+use Rattle.vmd_bytes.specs.Slices.{run}
 use Rattle.vmd_bytes.proofs.Laws.{part-all, padded-long, splice-padded}
 use Rattle.vmd_bytes.proofs.write_fixed_bytes.Statement.{statement}
 use Rattle.vmd_bytes.proofs.write_fixed_bytes.Tie as tie
 
 returns : tie.Need-returns
-unfolding part
+unfolding run
 returns c =
     let s = c .before .before .before .before .before .before .before .args in
     rw (padded-long (s .width) (now (s .value)) (omega arith)) (c .before .before .copy-bytes .ensures)

@@ -5,7 +5,7 @@ use Prim.Native.Nat.{_≤_, _-_}
 use native.Mathlib.Omega.{arith}
 use lib.ListN.{length}
 use borrow.Author.Needs.{needs}
-use Rattle.vmd_bytes.specs.Slices.{splice, part}
+use Rattle.vmd_bytes.specs.Slices.{splice, run}
 use Rattle.vmd_bytes.specs.Fields.{no-zero, canonical}
 use Rattle.vmd_bytes.proofs.Laws.{name-start, live-start, name-turn, live-turn, name-whole}
 use Rattle.vmd_bytes.proofs.write_name.Statement.{statement}
@@ -13,7 +13,7 @@ use Rattle.vmd_bytes.proofs.write_name.Tie as tie
 
 abbrev Inv-loop : tie.InvT-loop
 Inv-loop src at out₀ to width i₀ live₀ out i live =
-    (i ≤ width) × (length out ≡ length out₀) × (live ≡ no-zero (part src at i)) × (out ≡ splice out₀ to (canonical true (part src at i)))
+    (i ≤ width) × (length out ≡ length out₀) × (live ≡ no-zero (run src at i)) × (out ≡ splice out₀ to (canonical true (run src at i)))
 
 abbrev μ-loop : tie.MeasureT-loop
 μ-loop src at out₀ to width i₀ live₀ out i live = width - i

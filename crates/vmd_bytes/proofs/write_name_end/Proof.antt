@@ -5,7 +5,7 @@ use Prim.Native.Nat.{_≤_, _-_}
 use native.Mathlib.Omega.{arith}
 use lib.ListN.{length, length-set}
 use borrow.Author.Needs.{needs}
-use Rattle.vmd_bytes.specs.Slices.{splice, part}
+use Rattle.vmd_bytes.specs.Slices.{splice, run}
 use Rattle.vmd_bytes.specs.Fields.{no-zero, canonical}
 use Rattle.vmd_bytes.proofs.Laws.{name-start, live-start, name-byte, live-byte}
 use Rattle.vmd_bytes.proofs.write_name_end.Statement.{statement}
@@ -13,7 +13,7 @@ use Rattle.vmd_bytes.proofs.write_name_end.Tie as tie
 
 abbrev Inv-loop : tie.InvT-loop
 Inv-loop src at out₀ to n live i₀ on₀ out i on =
-    (i ≤ n) × (length out ≡ length out₀) × (on ≡ (live && no-zero (part src at i))) × (out ≡ splice out₀ to (canonical live (part src at i)))
+    (i ≤ n) × (length out ≡ length out₀) × (on ≡ (live && no-zero (run src at i))) × (out ≡ splice out₀ to (canonical live (run src at i)))
 
 abbrev μ-loop : tie.MeasureT-loop
 μ-loop src at out₀ to n live i₀ on₀ out i on = n - i

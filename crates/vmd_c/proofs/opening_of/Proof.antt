@@ -1,12 +1,12 @@
 -- `vmd_c::opening_of` meets its contract. Assumes nothing.
 use mathlib.Core.Path.{refl}
 use borrow.Author.Needs.{needs}
-use Rattle.vmd_c.specs.Meaning.{part-at, scan-at}
+use Rattle.vmd_c.specs.Meaning.{extent-at, scan-at}
 use Rattle.vmd_c.proofs.opening_of.Statement.{statement}
 use Rattle.vmd_c.proofs.opening_of.Tie as tie
 
 returns : tie.Need-returns
-unfolding scan-at part-at
+unfolding scan-at extent-at
 returns c = refl
 
 pub opening-of-spec : {M : Type 1} → statement M

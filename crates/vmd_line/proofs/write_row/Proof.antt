@@ -4,7 +4,7 @@ use mathlib.Core.Path.{_≡_, _∙_}
 use Prim.Native.Nat.{_+_, _*_, _-_, _≤_}
 use native.Mathlib.Omega.{arith}
 use lib.ListN.{length, length-set}
-use Rattle.vmd_bytes.specs.Slices.{part}
+use Rattle.vmd_bytes.specs.Slices.{run}
 use Rattle.vmd_bytes.specs.Written.{Wrote}
 use Rattle.vmd_bytes.proofs.Laws.{part-zero}
 use Rattle.vmd_line.specs.Line.{spaced}
@@ -14,7 +14,7 @@ use Rattle.vmd_line.proofs.write_row.Tie as tie
 
 abbrev Inv-loop : tie.InvT-loop
 Inv-loop out₀ numbers at₀ i₀ out at i =
-    (1 ≤ i) × (i ≤ 9) × (at + 1 ≤ 21 * i) × (length out ≡ 256) × (length out₀ ≡ 256) × Wrote out₀ at₀ (spaced (part numbers 1 (i - 1))) out at
+    (1 ≤ i) × (i ≤ 9) × (at + 1 ≤ 21 * i) × (length out ≡ 256) × (length out₀ ≡ 256) × Wrote out₀ at₀ (spaced (run numbers 1 (i - 1))) out at
 
 abbrev μ-loop : tie.MeasureT-loop
 μ-loop out₀ numbers at₀ i₀ out at i = 9 - i

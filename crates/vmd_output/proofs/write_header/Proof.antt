@@ -2,7 +2,7 @@
 use native.Mathlib.Omega.{arith}
 use borrow.Author.Needs.{needs}
 use denote.Ref.{now}
-use Rattle.vmd_bytes.specs.Slices.{part}
+use Rattle.vmd_bytes.specs.Slices.{run}
 use Rattle.vmd_format.specs.Take.{magic}
 use Rattle.vmd_output.proofs.Laws.{header-length, header-wrote}
 use Rattle.vmd_output.proofs.write_header.Statement.{statement}
@@ -20,7 +20,7 @@ write-fixed-bytes-requires c κs =
     omega (arith, s .pre .room, header-length (now (s .args .model)), b .copy-bytes .kept .1 .1 .0)
 
 returns : tie.Need-returns
-unfolding magic part
+unfolding magic run
 returns c =
     let w = c .before .before in
     let b = w .before .before .before .before in

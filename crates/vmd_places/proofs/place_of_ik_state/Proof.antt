@@ -3,7 +3,7 @@ use mathlib.Core.Path.{sym, ap, _∙_}
 use native.Mathlib.Omega.{arith}
 use borrow.Author.Needs.{needs}
 use Rattle.vmd_format.specs.Answer.{and-then}
-use Rattle.vmd_format.specs.Fetch.{ik-part}
+use Rattle.vmd_format.specs.Fetch.{ik-extent}
 use Rattle.vmd_places.specs.Meaning.{place-answer, ik-place}
 use Rattle.vmd_places.proofs.Places.{property-ends}
 use Rattle.vmd_places.proofs.place_of_ik_state.Statement.{statement}
@@ -31,7 +31,7 @@ returns c =
     rw (sym (t .before .before .place-of-property .ensures) ∙ ap place-answer (t .k .given .1))
 
 returns-2 : tie.Need-returns-2
-unfolding ik-place and-then ik-part
+unfolding ik-place and-then ik-extent
 returns-2 c =
     let t = c .before .before .before in
     rw (sym (t .before .before .place-of-property .ensures) ∙ ap place-answer (t .at .given .1), ← c .before .read-u32-le .ensures) (c .place-of .ensures)

@@ -2,20 +2,20 @@
 use mathlib.Core.Path.{sym, ap, _∙_}
 use borrow.Author.Needs.{needs}
 use Rattle.vmd_format.specs.Answer.{and-then}
-use Rattle.vmd_format.specs.Places.{part-in}
+use Rattle.vmd_format.specs.Places.{extent-in}
 use Rattle.vmd_scan.specs.Meaning.{span-answer}
 use Rattle.vmd_scan.specs.Stages.{scan-front}
 use Rattle.vmd_scan.proofs.scan_front.Statement.{statement}
 use Rattle.vmd_scan.proofs.scan_front.Tie as tie
 
 returns : tie.Need-returns
-unfolding scan-front and-then part-in
+unfolding scan-front and-then extent-in
 returns c =
     let t1 = c .before in
     rw (sym (t1 .before .before .read-record-count .ensures) ∙ ap span-answer (t1 .k .given .1))
 
 returns-2 : tie.Need-returns-2
-unfolding scan-front and-then part-in
+unfolding scan-front and-then extent-in
 returns-2 c =
     let t2 = c .before in
     let t1 = t2 .before .before .before .before in
@@ -25,7 +25,7 @@ returns-2 c =
     )
 
 returns-3 : tie.Need-returns-3
-unfolding scan-front and-then part-in
+unfolding scan-front and-then extent-in
 returns-3 c =
     let t3 = c .before in
     let t2 = t3 .before .before .before .before in
@@ -37,7 +37,7 @@ returns-3 c =
     )
 
 returns-4 : tie.Need-returns-4
-unfolding scan-front and-then part-in
+unfolding scan-front and-then extent-in
 returns-4 c =
     let t3 = c .before in
     let t2 = t3 .before .before .before .before in

@@ -2,7 +2,7 @@
 use mathlib.Core.Path.{_∙_}
 use native.Mathlib.Omega.{arith}
 use borrow.Author.Needs.{needs}
-use Rattle.vmd_bytes.specs.Slices.{part}
+use Rattle.vmd_bytes.specs.Slices.{run}
 use Rattle.vmd_write_columns.proofs.Writing.{bone-written, bits-length}
 use Rattle.vmd_write_columns.proofs.write_bone_frame.Statement.{statement}
 use Rattle.vmd_write_columns.proofs.write_bone_frame.Tie as tie
@@ -50,7 +50,7 @@ returns c =
     let l = f .before .before .before .before in
     let b = l .before .before .before .before in
     let s = b .before .before .before .before .before .before .before in
-    bone-written (part (s .args .names .now) (s .args .start) (s .args .n)) (s .args .frame) _ _ (s .args .interpolations .now) (s .args .i) (s .args .out .now) (s .args .to) (s .pre .2) (s .pre .3) (b .write-table-name .ensures) (l .write-u32-le .ensures) (f .write-floats .ensures) (w .write-floats2 .ensures) (a .copy-interpolation .ensures) (l .write-u32-le .kept .0 ∙ b .write-table-name .kept .1 .1 .1 .0)
+    bone-written (run (s .args .names .now) (s .args .start) (s .args .n)) (s .args .frame) _ _ (s .args .interpolations .now) (s .args .i) (s .args .out .now) (s .args .to) (s .pre .2) (s .pre .3) (b .write-table-name .ensures) (l .write-u32-le .ensures) (f .write-floats .ensures) (w .write-floats2 .ensures) (a .copy-interpolation .ensures) (l .write-u32-le .kept .0 ∙ b .write-table-name .kept .1 .1 .1 .0)
 
 pub write-bone-frame-spec : {M : Type 1} → statement M
 write-bone-frame-spec =
