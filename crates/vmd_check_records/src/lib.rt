@@ -19,19 +19,6 @@ ghost use Rattle.vmd_check_records.specs.Stages.{finite-words, counted};
 
 // ---- record bytes
 
-const CAMERA_SIZE: usize = VmdParsedCameraFrame::SIZE;
-
-const LIGHT_SIZE: usize = VmdParsedLightFrame::SIZE;
-
-const SELF_SHADOW_SIZE: usize = VmdParsedSelfShadowFrame::SIZE;
-
-// A property frame without its IK states.
-const PROPERTY_SIZE: usize = VmdParsedPropertyFrame::SIZE;
-
-const IK_STATE_SIZE: usize = VmdParsedIkState::SIZE;
-
-const IK_NAME_SIZE: usize = VmdParsedIkState::NAME_WIDTH;
-
 // Where a record that begins with its frame has what follows.
 const AFTER_FRAME: usize = 4;
 
@@ -99,7 +86,7 @@ fn ik_check(bytes: &[u8], at: usize) -> Check
     requires { ⌜ at + 21 ≤ length (now bytes) ⌝ }
     ensures { λ r. ⌜ check-of r ≡ ik-check (ik-state .decode (drop at (now (bytes .entry)))) ⌝ }
 {
-    let name = vmd_bytes::trim_fixed_bytes(&bytes[at..at + IK_NAME_SIZE]);
+    let name = vmd_bytes::trim_fixed_bytes(&bytes[at..at + VmdParsedIkState::NAME_WIDTH]);
     if vmd_names::good_name(name) {
         return Check::Passes;
     }
@@ -110,7 +97,7 @@ pub fn cameras_check(bytes: &[u8]) -> Check
     ensures { λ r. ⌜ check-of r ≡ each camera-check (records-of camera (now (bytes .entry))) ⌝ }
 {
     let mut at = 0;
-    let mut left = bytes.len() / CAMERA_SIZE;
+    let mut left = bytes.len() / VmdParsedCameraFrame::SIZE;
     while 0 < left {
         match camera_check(bytes, at) {
             Check::Fails(k) => {
@@ -118,7 +105,7 @@ pub fn cameras_check(bytes: &[u8]) -> Check
             }
             Check::Passes => {}
         }
-        at += CAMERA_SIZE;
+        at += VmdParsedCameraFrame::SIZE;
         left -= 1;
     }
     Check::Passes
@@ -128,7 +115,7 @@ pub fn lights_check(bytes: &[u8]) -> Check
     ensures { λ r. ⌜ check-of r ≡ each light-check (records-of light (now (bytes .entry))) ⌝ }
 {
     let mut at = 0;
-    let mut left = bytes.len() / LIGHT_SIZE;
+    let mut left = bytes.len() / VmdParsedLightFrame::SIZE;
     while 0 < left {
         match light_check(bytes, at) {
             Check::Fails(k) => {
@@ -136,7 +123,7 @@ pub fn lights_check(bytes: &[u8]) -> Check
             }
             Check::Passes => {}
         }
-        at += LIGHT_SIZE;
+        at += VmdParsedLightFrame::SIZE;
         left -= 1;
     }
     Check::Passes
@@ -146,7 +133,7 @@ pub fn self_shadows_check(bytes: &[u8]) -> Check
     ensures { λ r. ⌜ check-of r ≡ each self-shadow-check (records-of self-shadow (now (bytes .entry))) ⌝ }
 {
     let mut at = 0;
-    let mut left = bytes.len() / SELF_SHADOW_SIZE;
+    let mut left = bytes.len() / VmdParsedSelfShadowFrame::SIZE;
     while 0 < left {
         match self_shadow_check(bytes, at) {
             Check::Fails(k) => {
@@ -154,7 +141,7 @@ pub fn self_shadows_check(bytes: &[u8]) -> Check
             }
             Check::Passes => {}
         }
-        at += SELF_SHADOW_SIZE;
+        at += VmdParsedSelfShadowFrame::SIZE;
         left -= 1;
     }
     Check::Passes
@@ -174,7 +161,7 @@ fn ik_states_check(bytes: &[u8], place: usize, n: usize) -> Check
             }
             Check::Passes => {}
         }
-        at += IK_STATE_SIZE;
+        at += VmdParsedIkState::SIZE;
         left -= 1;
     }
     Check::Passes
@@ -195,15 +182,15 @@ fn count_frames(bytes: &[u8]) -> Frames
     let mut at = 0;
     let mut n = 0;
     while at < bytes.len() {
-        if bytes.len() - at < PROPERTY_SIZE {
+        if bytes.len() - at < VmdParsedPropertyFrame::SIZE {
             return Frames::NotWhole;
         }
         let count = vmd_bytes::read_u32_le(bytes, at + VmdParsedPropertyFrame::IK_COUNT_OFFSET);
-        let states = (count as usize) * IK_STATE_SIZE;
-        if bytes.len() - at - PROPERTY_SIZE < states {
+        let states = (count as usize) * VmdParsedIkState::SIZE;
+        if bytes.len() - at - VmdParsedPropertyFrame::SIZE < states {
             return Frames::NotWhole;
         }
-        at = at + PROPERTY_SIZE + states;
+        at = at + VmdParsedPropertyFrame::SIZE + states;
         n += 1;
     }
     Frames::Whole(n)
@@ -237,7 +224,7 @@ pub fn properties_check(bytes: &[u8]) -> Check
     let mut left = property_count(bytes);
     while 0 < left {
         let states = vmd_bytes::read_u32_le(bytes, at + VmdParsedPropertyFrame::IK_COUNT_OFFSET);
-        match ik_states_check(bytes, at + PROPERTY_SIZE, states as usize) {
+        match ik_states_check(bytes, at + VmdParsedPropertyFrame::SIZE, states as usize) {
             Check::Fails(k) => {
                 return Check::Fails(k);
             }

@@ -33,23 +33,6 @@ ghost use Rattle.vmd_scan.specs.Stages.{read-number, optional-number, co
 ghost use Rattle.vmd_scan.specs.Frames.{no-frames, with-frame, with-records, with-properties, frames-of};
 ghost use Rattle.vmd_scan.specs.Meaning.{oversized-of, over-of, scan-is, header-answer, number-answer, optional-answer, span-answer, walk-answer, front-is, back-is, front-answer, back-answer, scan-answer};
 
-// ---- sizes, in bytes
-
-const BONE_SIZE: usize = VmdParsedBoneFrame::SIZE;
-
-const MORPH_SIZE: usize = VmdParsedMorphFrame::SIZE;
-
-const CAMERA_SIZE: usize = VmdParsedCameraFrame::SIZE;
-
-const LIGHT_SIZE: usize = VmdParsedLightFrame::SIZE;
-
-const SELF_SHADOW_SIZE: usize = VmdParsedSelfShadowFrame::SIZE;
-
-// A property frame without its IK states.
-const PROPERTY_SIZE: usize = VmdParsedPropertyFrame::SIZE;
-
-const IK_STATE_SIZE: usize = VmdParsedIkState::SIZE;
-
 // ---- types
 
 pub struct VmdSections {
@@ -346,16 +329,16 @@ pub fn walk_property_frames(file: &[u8], place: usize, n: usize) -> WalkAnswer
     let mut ik_states: u64 = 0;
     let mut i = 0;
     while i < n {
-        if file.len() - at < PROPERTY_SIZE {
+        if file.len() - at < VmdParsedPropertyFrame::SIZE {
             return WalkAnswer::Refused(VmdRefusal::FileEndsEarly);
         }
         let count = vmd_bytes::read_u32_le(file, at + VmdParsedPropertyFrame::IK_COUNT_OFFSET);
-        let bytes = (count as usize) * IK_STATE_SIZE;
-        if file.len() - at - PROPERTY_SIZE < bytes {
+        let bytes = (count as usize) * VmdParsedIkState::SIZE;
+        if file.len() - at - VmdParsedPropertyFrame::SIZE < bytes {
             return WalkAnswer::Refused(VmdRefusal::FileEndsEarly);
         }
         ik_states += count as u64;
-        at = at + PROPERTY_SIZE + bytes;
+        at = at + VmdParsedPropertyFrame::SIZE + bytes;
         i += 1;
     }
     WalkAnswer::Walked {
@@ -370,7 +353,7 @@ pub fn next_property_frame(file: &[u8], at: usize) -> usize
     ensures { λ r. ⌜ r ≡ next-frame (now (file .entry)) at ⌝ }
 {
     let count = vmd_bytes::read_u32_le(file, at + VmdParsedPropertyFrame::IK_COUNT_OFFSET);
-    at + PROPERTY_SIZE + (count as usize) * IK_STATE_SIZE
+    at + VmdParsedPropertyFrame::SIZE + (count as usize) * VmdParsedIkState::SIZE
 }
 
 // The position of each of n property frames, into the first places of scratch.
@@ -455,17 +438,17 @@ fn scan_front(file: &[u8], start: ByteReader, oversized: Oversized) -> FrontAnsw
     ensures { λ r. ⌜ front-answer r ≡ scan-front (oversized-of oversized) (now (file .entry)) (start .pos) ⌝ }
 {
     let refused = Oversized::Refused(VmdRefusal::FileEndsEarly);
-    match start.read_record_count(file, BONE_SIZE, refused) {
+    match start.read_record_count(file, VmdParsedBoneFrame::SIZE, refused) {
         SectionAnswer::Refused(k) => FrontAnswer::Refused(k),
         SectionAnswer::Found(bones, p) => match p.read_optional_record_count(
             file,
-            MORPH_SIZE,
+            VmdParsedMorphFrame::SIZE,
             refused,
         ) {
             SectionAnswer::Refused(k) => FrontAnswer::Refused(k),
             SectionAnswer::Found(morphs, q) => match q.read_optional_record_count(
                 file,
-                CAMERA_SIZE,
+                VmdParsedCameraFrame::SIZE,
                 oversized,
             ) {
                 SectionAnswer::Refused(k) => FrontAnswer::Refused(k),
@@ -485,17 +468,17 @@ fn scan_back(file: &[u8], start: ByteReader, oversized: Oversized) -> BackAnswer
     ensures { λ r. ⌜ back-answer r ≡ scan-back (oversized-of oversized) (now (file .entry)) (start .pos) ⌝ }
 {
     let refused = Oversized::Refused(VmdRefusal::FileEndsEarly);
-    match start.read_optional_record_count(file, LIGHT_SIZE, oversized) {
+    match start.read_optional_record_count(file, VmdParsedLightFrame::SIZE, oversized) {
         SectionAnswer::Refused(k) => BackAnswer::Refused(k),
         SectionAnswer::Found(lights, p) => match p.read_optional_record_count(
             file,
-            SELF_SHADOW_SIZE,
+            VmdParsedSelfShadowFrame::SIZE,
             oversized,
         ) {
             SectionAnswer::Refused(k) => BackAnswer::Refused(k),
             SectionAnswer::Found(self_shadows, q) => match q.read_optional_record_count(
                 file,
-                PROPERTY_SIZE,
+                VmdParsedPropertyFrame::SIZE,
                 refused,
             ) {
                 SectionAnswer::Refused(k) => BackAnswer::Refused(k),

@@ -12,12 +12,6 @@ ghost use Rattle.vmd_format.specs.Take.{property};
 ghost use Rattle.vmd_bytes.specs.Slices.{splice};
 ghost use Rattle.vmd_bytes.specs.Written.{Room, Wrote};
 
-const PROPERTY_SIZE: usize = VmdParsedPropertyFrame::SIZE;
-
-const IK_STATE_SIZE: usize = VmdParsedIkState::SIZE;
-
-const IK_NAME_SIZE: usize = VmdParsedIkState::NAME_WIDTH;
-
 // Where a byte or a count stands in its record.
 const ENABLED: usize = VmdParsedIkState::ENABLED_OFFSET;
 
@@ -31,7 +25,7 @@ fn write_ik_state(src: &[u8], at: usize, out: &mut [u8], to: usize)
     requires { ⌜ (at + 21 ≤ length (now src)) × (to + 21 ≤ length (now out)) ⌝ }
     ensures { λ _. ⌜ now (out .exit) ≡ splice (now (out .entry)) to (ik-state .encode (ik-state .decode (drop at (now (src .entry))))) ⌝ }
 {
-    vmd_bytes::write_name(src, at, out, to, IK_NAME_SIZE);
+    vmd_bytes::write_name(src, at, out, to, VmdParsedIkState::NAME_WIDTH);
     let read = src[at + ENABLED];
     let flag = vmd_bytes::canonical_flag(read);
     out[to + ENABLED] = flag;
@@ -46,8 +40,8 @@ fn write_ik_states(out: &mut [u8], to: usize, src: &[u8], at: usize, n: usize) -
     let mut states = n;
     while 0 < states {
         write_ik_state(src, p, out, q);
-        p += IK_STATE_SIZE;
-        q += IK_STATE_SIZE;
+        p += VmdParsedIkState::SIZE;
+        q += VmdParsedIkState::SIZE;
         states -= 1;
     }
     q
@@ -61,7 +55,7 @@ fn property_length(src: &[u8], at: usize) -> usize
     ensures { λ r. ⌜ at + r ≡ next-frame (now (src .entry)) at ⌝ }
 {
     let states = vmd_bytes::read_u32_le(src, at + IK_COUNT);
-    PROPERTY_SIZE + states as usize * IK_STATE_SIZE
+    VmdParsedPropertyFrame::SIZE + states as usize * VmdParsedIkState::SIZE
 }
 
 // One property frame with its IK states. The result is the place after it.
@@ -77,7 +71,13 @@ fn write_property(out: &mut [u8], to: usize, src: &[u8], at: usize) -> usize
     let count = vmd_bytes::read_u32_le(src, at + IK_COUNT);
     vmd_bytes::write_u32_le(out, to + IK_COUNT, count);
     let states = count as usize;
-    write_ik_states(out, to + PROPERTY_SIZE, src, at + PROPERTY_SIZE, states)
+    write_ik_states(
+        out,
+        to + VmdParsedPropertyFrame::SIZE,
+        src,
+        at + VmdParsedPropertyFrame::SIZE,
+        states,
+    )
 }
 
 // n property frames one after another.

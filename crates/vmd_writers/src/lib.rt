@@ -16,26 +16,10 @@ ghost use Rattle.vmd_bytes.specs.Slices.{splice, run};
 ghost use Rattle.vmd_bytes.specs.Written.{Room, Wrote};
 ghost use Rattle.vmd_records.specs.Kinds.{layout, size-of};
 
-// The size of each record.
-const BONE_SIZE: usize = VmdParsedBoneFrame::SIZE;
-
-const MORPH_SIZE: usize = VmdParsedMorphFrame::SIZE;
-
-const CAMERA_SIZE: usize = VmdParsedCameraFrame::SIZE;
-
-const LIGHT_SIZE: usize = VmdParsedLightFrame::SIZE;
-
-const SELF_SHADOW_SIZE: usize = VmdParsedSelfShadowFrame::SIZE;
-
-// The name of a bone or a morph, the same with the byte after it, which is two words, and what a bone has after its name.
-const NAME_SIZE: usize = VmdParsedBoneFrame::NAME_WIDTH;
-
+// The name of a bone or a morph with the byte after it, which is two words, and what a bone has after its name.
 const NAME_WORDS: usize = 16;
 
-const BONE_REST: usize = BONE_SIZE - NAME_SIZE;
-
-// Where the perspective byte stands in a camera.
-const PERSPECTIVE: usize = VmdParsedCameraFrame::PERSPECTIVE_OFFSET;
+const BONE_REST: usize = VmdParsedBoneFrame::SIZE - VmdParsedBoneFrame::NAME_WIDTH;
 
 // ---- bones
 
@@ -45,7 +29,13 @@ fn write_bone(src: &[u8], at: usize, out: &mut [u8], to: usize)
     ensures { λ _. ⌜ now (out .exit) ≡ splice (now (out .entry)) to (bone .encode (bone .decode (drop at (now (src .entry))))) ⌝ }
 {
     vmd_bytes::write_name(src, at, out, to, NAME_WORDS);
-    vmd_bytes::copy_bytes(src, at + NAME_SIZE, out, to + NAME_SIZE, BONE_REST);
+    vmd_bytes::copy_bytes(
+        src,
+        at + VmdParsedBoneFrame::NAME_WIDTH,
+        out,
+        to + VmdParsedBoneFrame::NAME_WIDTH,
+        BONE_REST,
+    );
 }
 
 fn write_bones(out: &mut [u8], to: usize, src: &[u8], at: usize, n: usize) -> usize
@@ -57,8 +47,8 @@ fn write_bones(out: &mut [u8], to: usize, src: &[u8], at: usize, n: usize) -> us
     let mut left = n;
     while 0 < left {
         write_bone(src, p, out, q);
-        p += BONE_SIZE;
-        q += BONE_SIZE;
+        p += VmdParsedBoneFrame::SIZE;
+        q += VmdParsedBoneFrame::SIZE;
         left -= 1;
     }
     q
@@ -71,7 +61,12 @@ fn write_morph(src: &[u8], at: usize, out: &mut [u8], to: usize)
     ensures { λ _. ⌜ now (out .exit) ≡ splice (now (out .entry)) to (morph .encode (morph .decode (drop at (now (src .entry))))) ⌝ }
 {
     vmd_bytes::write_name(src, at, out, to, NAME_WORDS);
-    vmd_bytes::copy_word(src, at + NAME_SIZE, out, to + NAME_SIZE);
+    vmd_bytes::copy_word(
+        src,
+        at + VmdParsedBoneFrame::NAME_WIDTH,
+        out,
+        to + VmdParsedBoneFrame::NAME_WIDTH,
+    );
 }
 
 fn write_morphs(out: &mut [u8], to: usize, src: &[u8], at: usize, n: usize) -> usize
@@ -83,8 +78,8 @@ fn write_morphs(out: &mut [u8], to: usize, src: &[u8], at: usize, n: usize) -> u
     let mut left = n;
     while 0 < left {
         write_morph(src, p, out, q);
-        p += MORPH_SIZE;
-        q += MORPH_SIZE;
+        p += VmdParsedMorphFrame::SIZE;
+        q += VmdParsedMorphFrame::SIZE;
         left -= 1;
     }
     q
@@ -98,9 +93,15 @@ fn copy_camera_front(src: &[u8], at: usize, out: &mut [u8], to: usize)
     requires { ⌜ (at + 60 ≤ length (now src)) × (to + 60 ≤ length (now out)) ⌝ }
     ensures { λ _. ⌜ now (out .exit) ≡ splice (now (out .entry)) to (run (now (src .entry)) at 60) ⌝ }
 {
-    let mut front = [0u8; PERSPECTIVE];
-    vmd_bytes::copy_bytes(src, at, &mut front, 0, PERSPECTIVE);
-    vmd_bytes::copy_bytes(&front, 0, out, to, PERSPECTIVE);
+    let mut front = [0u8; VmdParsedCameraFrame::PERSPECTIVE_OFFSET];
+    vmd_bytes::copy_bytes(
+        src,
+        at,
+        &mut front,
+        0,
+        VmdParsedCameraFrame::PERSPECTIVE_OFFSET,
+    );
+    vmd_bytes::copy_bytes(&front, 0, out, to, VmdParsedCameraFrame::PERSPECTIVE_OFFSET);
 }
 
 fn write_camera(src: &[u8], at: usize, out: &mut [u8], to: usize)
@@ -108,9 +109,9 @@ fn write_camera(src: &[u8], at: usize, out: &mut [u8], to: usize)
     ensures { λ _. ⌜ now (out .exit) ≡ splice (now (out .entry)) to (camera .encode (camera .decode (drop at (now (src .entry))))) ⌝ }
 {
     copy_camera_front(src, at, out, to);
-    let read = src[at + PERSPECTIVE];
+    let read = src[at + VmdParsedCameraFrame::PERSPECTIVE_OFFSET];
     let flag = vmd_bytes::canonical_inverted(read);
-    out[to + PERSPECTIVE] = flag;
+    out[to + VmdParsedCameraFrame::PERSPECTIVE_OFFSET] = flag;
 }
 
 fn write_cameras(out: &mut [u8], to: usize, src: &[u8], at: usize, n: usize) -> usize
@@ -122,8 +123,8 @@ fn write_cameras(out: &mut [u8], to: usize, src: &[u8], at: usize, n: usize) -> 
     let mut left = n;
     while 0 < left {
         write_camera(src, p, out, q);
-        p += CAMERA_SIZE;
-        q += CAMERA_SIZE;
+        p += VmdParsedCameraFrame::SIZE;
+        q += VmdParsedCameraFrame::SIZE;
         left -= 1;
     }
     q
@@ -135,7 +136,7 @@ fn write_lights(out: &mut [u8], to: usize, src: &[u8], at: usize, n: usize) -> u
     requires { ⌜ (at + n * 28 ≤ length (now src)) × Room (now out) to (write-all (light .encode) (table light n (drop at (now src)))) ⌝ }
     ensures { λ r. ⌜ Wrote (now (out .entry)) to (write-all (light .encode) (table light n (drop at (now (src .entry))))) (now (out .exit)) r ⌝ }
 {
-    let size = n * LIGHT_SIZE;
+    let size = n * VmdParsedLightFrame::SIZE;
     vmd_bytes::copy_bytes(src, at, out, to, size);
     to + size
 }
@@ -144,7 +145,7 @@ fn write_self_shadows(out: &mut [u8], to: usize, src: &[u8], at: usize, n: usize
     requires { ⌜ (at + n * 9 ≤ length (now src)) × Room (now out) to (write-all (self-shadow .encode) (table self-shadow n (drop at (now src)))) ⌝ }
     ensures { λ r. ⌜ Wrote (now (out .entry)) to (write-all (self-shadow .encode) (table self-shadow n (drop at (now (src .entry))))) (now (out .exit)) r ⌝ }
 {
-    let size = n * SELF_SHADOW_SIZE;
+    let size = n * VmdParsedSelfShadowFrame::SIZE;
     vmd_bytes::copy_bytes(src, at, out, to, size);
     to + size
 }
