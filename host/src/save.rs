@@ -169,13 +169,22 @@ fn replaceable(path: &Path, target: &Path) -> Result<Option<File>, SaveError> {
     if !found.is_file() {
         return refused("replace the file", "it is no regular file");
     }
-    if !fs::symlink_metadata(target).is_ok_and(|named| FileId::of(&named) == FileId::of(&found)) {
+    if path != target && !leads_to(path, target) {
         return refused("replace the file", "it has no name"); // a link of /proc to a file that was removed
     }
     if found.permissions().readonly() {
         return refused("write to the file", "it is read-only");
     }
     OpenOptions::new().write(true).open(target).doing("write to the file", path).map(Some)
+}
+
+/// Whether a link leads to the file of this name. Another save may put a new file there between the two looks, so a
+/// difference is looked at again.
+fn leads_to(link: &Path, name: &Path) -> bool {
+    (0..100).any(|_| match (fs::metadata(link), fs::symlink_metadata(name)) {
+        (Ok(there), Ok(named)) => FileId::of(&there) == FileId::of(&named),
+        _ => false,
+    })
 }
 
 fn compare(file: &mut File, bytes: &[u8]) -> io::Result<()> {

@@ -796,6 +796,23 @@ fn saves_at_the_same_time() {
     assert_eq!(saving.litter(), 0);
 }
 
+/// By its name and through a link: what is found of the take is another file from one look to the next.
+#[test]
+fn saves_through_a_link_at_the_same_time() {
+    let saving = Saving::of("looks", 3);
+    let link = saving.folder.join("link");
+    symlink("take", &link).unwrap();
+    thread::scope(|scope| {
+        for n in 0..4 {
+            let path = if n % 2 == 0 { saving.take() } else { link.clone() };
+            let bytes = &saving.new;
+            scope.spawn(move || (0..200).for_each(|_| vmd::save(&path, bytes).unwrap()));
+        }
+    });
+    assert!(saving.is_new());
+    assert_eq!(saving.litter(), 0);
+}
+
 /// Names of every length that the system allows.
 #[test]
 fn long_names() {
