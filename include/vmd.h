@@ -5,7 +5,7 @@
  * can be called from any thread.
  *
  * Answers. A function that returns uint32_t returns 0, or the number of a refusal (vmd_refusal below). After a refusal every
- * buffer and slot that was lent is as it was.
+ * buffer and slot that was lent is as it was (of vmd_light_frame's six floats this is proved up to a NaN's bits).
  *
  * Slices are a pointer and a number of elements. Each pointer must be aligned for its type and good for that many elements;
  * where the number is 0 the pointer is not used and may be null. Slots (counts, places, record, part, ..) are arrays of the

@@ -1,4 +1,4 @@
--- Laws of writes and parts of slices, of numbers in bytes, and of name fields. Assumes nothing.
+-- Laws of writes and runs, of numbers in bytes, and of name fields. Assumes nothing.
 use mathlib.Core.Path.{_≡_, refl, sym, ap, ap₂, _∙_}
 use mathlib.Core.Bool.{Bool, true, false, cond, not, _&&_}
 use mathlib.Core.List.{List, [], _∷_, _++_, append-assoc, append-nil}
@@ -97,17 +97,17 @@ pub part-zero : (l : List ℕ) (at : ℕ) → run l at 0 ≡ []
 unfolding run
 part-zero l at = refl
 
-pub part-all : (l : List ℕ) → run l 0 (length l) ≡ l
+pub run-all : (l : List ℕ) → run l 0 (length l) ≡ l
 unfolding run
-part-all l = take-length l
+run-all l = take-length l
 
-pub length-part : (l : List ℕ) (at n : ℕ) → at + n ≤ length l → length (run l at n) ≡ n
+pub length-run : (l : List ℕ) (at n : ℕ) → at + n ≤ length l → length (run l at n) ≡ n
 unfolding run
-length-part l at n h = simp (length-take, length-drop) (omega arith)
+length-run l at n h = simp (length-take, length-drop) (omega arith)
 
-pub part-add : (l : List ℕ) (at n m : ℕ) → run l at (n + m) ≡ run l at n ++ run l (at + n) m
+pub run-add : (l : List ℕ) (at n m : ℕ) → run l at (n + m) ≡ run l at n ++ run l (at + n) m
 unfolding run
-part-add l at n m = simp (take-add, drop-drop)
+run-add l at n m = simp (take-add, drop-drop)
 
 part-one : (l : List ℕ) (at : ℕ) → at < length l → run l at 1 ≡ getD l at 0 ∷ []
 unfolding run
@@ -117,12 +117,12 @@ pub part-cons : (l : List ℕ) (at n : ℕ) → at < length l → run l at (suc 
 unfolding run
 part-cons l at n h = rw (drop-cons l at 0 h, add-one)
 
-pub part-snoc : (l : List ℕ) (at n : ℕ) → at + n < length l → run l at (n + 1) ≡ run l at n ++ (getD l (at + n) 0 ∷ [])
-part-snoc l at n h = part-add l at n 1 ∙ rw (part-one l (at + n) h)
+pub run-snoc : (l : List ℕ) (at n : ℕ) → at + n < length l → run l at (n + 1) ≡ run l at n ++ (getD l (at + n) 0 ∷ [])
+run-snoc l at n h = run-add l at n 1 ∙ rw (part-one l (at + n) h)
 
-pub take-part : (l : List ℕ) (at n k : ℕ) → k ≤ n → take k (run l at n) ≡ run l at k
+pub take-run : (l : List ℕ) (at n k : ℕ) → k ≤ n → take k (run l at n) ≡ run l at k
 unfolding run
-take-part l at n k h = take-take k n (drop at l) h
+take-run l at n k h = take-take k n (drop at l) h
 
 drop-take : (k n : ℕ) (l : List ℕ) → drop k (take n l) ≡ take (n - k) (drop k l)
 drop-take zero n l = rw (sub-zero n)
@@ -130,9 +130,9 @@ drop-take (suc k) zero l = rw (zero-sub (suc k))
 drop-take (suc k) (suc n) [] = sym (take-nil (suc n - suc k))
 drop-take (suc k) (suc n) (x ∷ l) = rw (suc-sub-suc n k) (drop-take k n l)
 
-pub drop-part : (l : List ℕ) (at n k : ℕ) → drop k (run l at n) ≡ run l (at + k) (n - k)
+pub drop-run : (l : List ℕ) (at n k : ℕ) → drop k (run l at n) ≡ run l (at + k) (n - k)
 unfolding run
-drop-part l at n k = rw (drop-take k n (drop at l), drop-drop)
+drop-run l at n k = rw (drop-take k n (drop at l), drop-drop)
 
 -- the list of `&l[at..at + n]`
 pub range-part : (l : List ℕ) (at n : ℕ) → take (at + n - at) (drop at l) ≡ run l at n
@@ -142,7 +142,7 @@ range-part l at n = rw add-sub-cancel-left
 -- ---- turns of loops
 
 pub copy-turn : (s l : List ℕ) (at to i : ℕ) → at + i < length s → to + i < length l → set (splice l to (run s at i)) (to + i) (getD s (at + i) 0) ≡ splice l to (run s at (i + 1))
-copy-turn s l at to i hs hl = rw (part-snoc s at i hs) (splice-snoc-at l to (run s at i) i (getD s (at + i) 0) (length-part s at i (omega arith)) hl)
+copy-turn s l at to i hs hl = rw (run-snoc s at i hs) (splice-snoc-at l to (run s at i) i (getD s (at + i) 0) (length-run s at i (omega arith)) hl)
 
 pub fill-turn : (l : List ℕ) (to i a : ℕ) → to + i < length l → set (splice l to (replicate i a)) (to + i) a ≡ splice l to (replicate (i + 1) a)
 fill-turn l to i a h = rw (← replicate-append-replicate) (splice-snoc-at l to (replicate i a) i a (length-replicate i a) h)
@@ -307,18 +307,18 @@ live-start s at false = refl
 pub name-turn : (s l : List ℕ) (at to i n : ℕ) (live : Bool) → at + i ≤ length s → to + i ≤ length l
     → splice (splice l to (canonical live (run s at i))) (to + i) (canonical (live && no-zero (run s at i)) (run s (at + i) n)) ≡ splice l to (canonical live (run s at (i + n)))
 name-turn s l at to i n live hs hl =
-    rw (part-add s at i n, canonical-append live (run s at i) (run s (at + i) n))
-    (splice-append-at l to (canonical live (run s at i)) _ i (length-canonical live (run s at i) ∙ length-part s at i hs) hl)
+    rw (run-add s at i n, canonical-append live (run s at i) (run s (at + i) n))
+    (splice-append-at l to (canonical live (run s at i)) _ i (length-canonical live (run s at i) ∙ length-run s at i hs) hl)
 
 pub live-turn : (s : List ℕ) (at i n : ℕ) (live : Bool) → (live && no-zero (run s at i) && no-zero (run s (at + i) n)) ≡ (live && no-zero (run s at (i + n)))
-live-turn s at i n live = rw (part-add s at i n, no-zero-append, and-assoc)
+live-turn s at i n live = rw (run-add s at i n, no-zero-append, and-assoc)
 
 -- one byte more, by a store
 pub name-byte : (s l : List ℕ) (at to i : ℕ) (live : Bool) → at + i < length s → to + i < length l
     → set (splice l to (canonical live (run s at i))) (to + i) (cond (live && no-zero (run s at i) && not (eqb (getD s (at + i) 0) 0)) (getD s (at + i) 0) 0) ≡ splice l to (canonical live (run s at (i + 1)))
 name-byte s l at to i live hs hl =
     let u : List ℕ = canonical live (run s at i) in
-    let e : length u ≡ i = length-canonical live (run s at i) ∙ length-part s at i (omega arith) in
+    let e : length u ≡ i = length-canonical live (run s at i) ∙ length-run s at i (omega arith) in
     rw (set-splice (splice l to u) (to + i) _ (rw (length-splice l to u (omega arith)) hl), ← canonical-one, ← part-one s (at + i) hs) (name-turn s l at to i 1 live (omega arith) (omega arith))
 
 pub live-byte : (s : List ℕ) (at i : ℕ) (live : Bool) → at + i < length s → (live && no-zero (run s at i) && not (eqb (getD s (at + i) 0) 0)) ≡ (live && no-zero (run s at (i + 1)))
@@ -329,7 +329,7 @@ pub name-whole : (s l : List ℕ) (at to i n : ℕ) → i ≤ n → at + n ≤ l
     → splice (splice l to (canonical true (run s at i))) (to + i) (canonical (no-zero (run s at i)) (run s (at + i) (n - i))) ≡ splice l to (padded n (before-zero (run s at n)))
 name-whole s l at to i n h hs hl =
     let e : i + (n - i) ≡ n = omega arith in
-    name-turn s l at to i (n - i) true (omega arith) (omega arith) ∙ rw (e, canonical-name (run s at n) n (length-part s at n hs))
+    name-turn s l at to i (n - i) true (omega arith) (omega arith) ∙ rw (e, canonical-name (run s at n) n (length-run s at n hs))
 
 -- a name written k bytes too wide, and then the rest of the record over those
 pub name-wider : (s l v : List ℕ) (at to w k : ℕ) → at + (w + k) ≤ length s → k ≤ length v → to + w + length v ≤ length l
@@ -337,7 +337,7 @@ pub name-wider : (s l v : List ℕ) (at to w k : ℕ) → at + (w + k) ≤ lengt
 name-wider s l v at to w k hs hk hl =
     let u : List ℕ = run s at w in
     let x : List ℕ = run s (at + w) k in
-    let e : length u ≡ w = length-part s at w (omega arith) in
-    let f : length (canonical (no-zero u) x) ≡ k = length-canonical (no-zero u) x ∙ length-part s (at + w) k (omega arith) in
-    rw (← canonical-name u w e, ← canonical-name (run s at (w + k)) (w + k) (length-part s at (w + k) hs), part-add s at w k, canonical-append true u x)
+    let e : length u ≡ w = length-run s at w (omega arith) in
+    let f : length (canonical (no-zero u) x) ≡ k = length-canonical (no-zero u) x ∙ length-run s (at + w) k (omega arith) in
+    rw (← canonical-name u w e, ← canonical-name (run s at (w + k)) (w + k) (length-run s at (w + k) hs), run-add s at w k, canonical-append true u x)
     (splice-over-end l to (canonical true u) (canonical (no-zero u) x) v w (length-canonical true u ∙ e) (omega (arith, f)) hl)

@@ -2,3 +2,4 @@ pub mod Slices
 pub mod Fields
 pub mod Words
 pub mod Written
+pub mod Examples

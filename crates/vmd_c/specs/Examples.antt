@@ -2,7 +2,8 @@
 use Prim.Native.Nat.{ℕ}
 use mathlib.Core.Path.{_≡_, refl}
 use mathlib.Core.Bool.{true, false}
-use mathlib.Core.List.{[], _∷_}
+use mathlib.Core.List.{List, [], _∷_, _++_}
+use lib.ListN.{replicate}
 use lib.IntN.{pos}
 use lib.Ieee.{nan, fin, ofBits}
 use Rattle.vmd_format.specs.Refusal.{file-ends-early, outside, output-too-short}
@@ -10,6 +11,7 @@ use Rattle.vmd_format.specs.Answer.{declined, given}
 use Rattle.vmd_format.specs.Records.{Light}
 use Rattle.vmd_format.specs.Opening.{Scan, Opening}
 use Rattle.vmd_format.specs.Computed.{computed}
+use Rattle.vmd_places.specs.Meaning.{ik-place}
 use Rattle.vmd_places.specs.Parts.{file-part, part-in}
 use Rattle.vmd_c.specs.Meaning.{status, slot-after, counts-of, places-of, totals-of, extent-at, scan-at, bone-words, morph-words, camera-words, light-values, light-words, self-shadow-words, property-words, part-words, joined-words, file-of}
 
@@ -88,11 +90,16 @@ a-property = (refl, refl)
 
 -- ---- parts
 
--- where and how long, 0, 0 for none; of a joined name first in which file
+-- three bytes and a property frame of two IK states, with the bytes of one more after it
+abbrev two-states : List ℕ
+two-states = replicate 3 0 ++ (replicate 5 0 ++ (2 ∷ 0 ∷ 0 ∷ 0 ∷ []) ++ replicate 63 0)
+
+-- where and how long, 0, 0 for none; where an IK state stands; of a joined name first in which file
 pub parts :
     (part-words (file-part 30 2) ≡ 30 ∷ 2 ∷ []) × (part-words (file-part 30 0) ≡ 0 ∷ 0 ∷ [])
     × (part-words (part-in (given 100) 47 (77 ∷ 105 ∷ [])) ≡ 147 ∷ 2 ∷ []) × (part-words (part-in (declined outside) 47 (77 ∷ [])) ≡ 0 ∷ 0 ∷ [])
+    × (ik-place (record { count = 1; place = 0 }) (3 ∷ []) 0 1 two-states ≡ given 33) × (ik-place (record { count = 1; place = 0 }) (3 ∷ []) 0 2 two-states ≡ declined outside)
     × (joined-words (77 ∷ 105 ∷ []) (78 ∷ []) ≡ 0 ∷ 30 ∷ 2 ∷ []) × (joined-words [] (78 ∷ []) ≡ 1 ∷ 30 ∷ 1 ∷ []) × (joined-words [] [] ≡ 0 ∷ 0 ∷ 0 ∷ [])
     × (file-of (1 ∷ []) (2 ∷ []) 0 ≡ 1 ∷ []) × (file-of (1 ∷ []) (2 ∷ []) 1 ≡ 2 ∷ [])
-unfolding file-part part-in joined-words file-of
-parts = (refl, refl, refl, refl, refl, refl, refl, refl, refl)
+unfolding computed file-part part-in ik-place joined-words file-of
+parts = (refl, refl, refl, refl, refl, refl, refl, refl, refl, refl, refl)

@@ -36,7 +36,7 @@ at-the-place = (refl, refl, refl, refl)
 -- 4: a number at the count and above it; a record one byte past the end, one record past it, at the end; a place whose sum
 -- would wrap
 pub record-outside : T (
-    declines (morph-of 2 2 2) 4 && declines (morph-of 0 2 0) 4 && declines (morph-of 2 2 last) 4
+    declines (morph-of 2 2 2) 4 && declines (morph-of 0 2 0) 4 && declines (morph-of 1 2 1) 4 && declines (morph-of 2 2 last) 4
     && declines (morph-of 1 26 0) 4 && declines (morph-of 3 2 2) 4 && declines (morph-of 1 48 0) 4
     && declines (morph-of 1 last 0) 4 && declines (morph-of 4294967295 last 4294967294) 4)
 unfolding computed
@@ -47,6 +47,10 @@ record-outside = tt
 -- a frame with two IK states, 51 bytes
 abbrev frame : List ℕ
 frame = fours (10 ∷ []) ++ (255 ∷ []) ++ fours (2 ∷ []) ++ ik-bytes 75 88 255 ++ ik-bytes 76 88 0
+
+-- the same with the bytes of one more after them, so that a number at the count is refused by the count alone
+abbrev longer : List ℕ
+longer = frame ++ ik-bytes 77 88 1
 
 -- positions of another file: the frame's, the last with nine bytes there, the first without, and the largest number
 abbrev scratch : List ℕ
@@ -69,8 +73,11 @@ pub frame-outside : T (
 unfolding computed
 frame-outside = tt
 
+abbrev ik-in : List ℕ → ℕ → ℕ → ℕ → Answer IkState
+ik-in s count i j = fetch-ik-state (record { count = count; place = 0 }) scratch i j s
+
 abbrev ik-of : ℕ → ℕ → ℕ → Answer IkState
-ik-of count i j = fetch-ik-state (record { count = count; place = 0 }) scratch i j frame
+ik-of = ik-in frame
 
 pub state-at-the-place : (ik-of 5 0 0 ≡ given (ik-said 75 true)) × (ik-of 5 0 1 ≡ given (ik-said 76 false))
 unfolding computed
@@ -78,7 +85,7 @@ state-at-the-place = (refl, refl)
 
 -- 4: an IK number at its count, an IK count past the end, and each frame that is outside
 pub state-outside : T (
-    declines (ik-of 5 0 2) 4 && declines (ik-of 5 1 0) 4 && declines (ik-of 5 2 0) 4 && declines (ik-of 5 3 0) 4
+    declines (ik-of 5 0 2) 4 && declines (ik-in longer 5 0 2) 4 && declines (ik-of 5 1 0) 4 && declines (ik-of 5 2 0) 4 && declines (ik-of 5 3 0) 4
     && declines (ik-of 5 4 0) 4 && declines (ik-of 1 1 0) 4)
 unfolding computed
 state-outside = tt
@@ -88,17 +95,17 @@ state-outside = tt
 -- a bone's name and interpolation bytes, and a camera's; empty one byte past the end, and at the count
 abbrev bone-at : ℕ → ℕ → List ℕ × List ℕ
 bone-at place i =
-    let x = fetch bone (record { count = 1; place = place }) i (bone-bytes 65 88 7) in
+    let x = fetch bone (record { count = 1; place = place }) i (bone-bytes 65 88 7 ++ bone-bytes 66 88 8) in
     (or-empty (map-answer (λ b. b .name) x), or-empty (map-answer (λ b. b .interpolation) x))
 
 abbrev camera-at : ℕ → ℕ → List ℕ
-camera-at place i = or-empty (map-answer (λ c. c .interpolation) (fetch camera (record { count = 1; place = place }) i (camera-bytes 5 0)))
+camera-at place i = or-empty (map-answer (λ c. c .interpolation) (fetch camera (record { count = 1; place = place }) i (camera-bytes 5 0 ++ camera-bytes 6 1)))
 
 pub parts-or-empty :
-    (bone-at 0 0 ≡ (bone-said 65 7 .name, bone-said 65 7 .interpolation)) × (bone-at 1 0 ≡ ([], [])) × (bone-at 0 1 ≡ ([], []))
-    × (camera-at 0 0 ≡ camera-said 5 true .interpolation) × (camera-at 1 0 ≡ []) × (camera-at 0 1 ≡ [])
-    × (or-empty (map-answer (λ m. m .name) (morph-of 2 2 1)) ≡ 67 ∷ []) × (or-empty (map-answer (λ m. m .name) (morph-of 2 2 2)) ≡ [])
-    × (or-empty (map-answer (λ k. k .name) (ik-of 5 0 0)) ≡ 75 ∷ []) × (or-empty (map-answer (λ k. k .name) (ik-of 5 0 2)) ≡ [])
+    (bone-at 0 0 ≡ (bone-said 65 7 .name, bone-said 65 7 .interpolation)) × (bone-at 112 0 ≡ ([], [])) × (bone-at 0 1 ≡ ([], []))
+    × (camera-at 0 0 ≡ camera-said 5 true .interpolation) × (camera-at 62 0 ≡ []) × (camera-at 0 1 ≡ [])
+    × (or-empty (map-answer (λ m. m .name) (morph-of 2 2 1)) ≡ 67 ∷ []) × (or-empty (map-answer (λ m. m .name) (morph-of 1 2 1)) ≡ [])
+    × (or-empty (map-answer (λ k. k .name) (ik-of 5 0 0)) ≡ 75 ∷ []) × (or-empty (map-answer (λ k. k .name) (ik-in longer 5 0 2)) ≡ [])
 unfolding computed
 parts-or-empty = (refl, refl, refl, refl, refl, refl, refl, refl, refl, refl)
 

@@ -137,7 +137,7 @@ unfoldable pub frame-places : List ℕ → ℕ → ℕ → List ℕ
 frame-places s zero at = []
 frame-places s (suc n) at = at ∷ frame-places s n (next-frame s at)
 
--- the largest frame of a part, and of a whole file
+-- the largest frame of a section by its extent, and of a whole file
 unfoldable pub extent-largest : ℕ → ℕ → List ℕ → Extent → ℕ
 extent-largest offset size s p = largest-of offset size (p .count) (drop (p .place) s)
 

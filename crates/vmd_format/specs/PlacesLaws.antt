@@ -107,14 +107,6 @@ module _ (o : Oversized) (size : ℕ) (s : List ℕ) (at : ℕ) where
   unfolding span count-span records-span
   span-over n h e l = rw (le-leb (at + 4) (length s) h, ← e, lt-leb (n * size) (length s - (at + 4)) l)
 
-  pub optional-missing : length s ≤ at → optional-span o size s at ≡ given (no-span s)
-  unfolding optional-span optional-if
-  optional-missing h = rw (le-leb (length s) at h)
-
-  pub optional-there : at < length s → optional-span o size s at ≡ span o size s at
-  unfolding optional-span optional-if
-  optional-there h = rw (lt-leb (length s) at h)
-
 -- a section by its span
 unfoldable pub section-by : {A : Type 0} → Codec A → List ℕ → Answer Span → Step (Section A)
 section-by C s (declined k) = refused k

@@ -6,7 +6,7 @@ use mathlib.Core.Bool.{Bool, true, false}
 use mathlib.Core.List.{List}
 use native.Mathlib.Omega.{arith}
 use Rattle.vmd_format.specs.BytesLaws.{Bytes}
-use Rattle.vmd_format.specs.Refusal.{Refusal, count-too-large}
+use Rattle.vmd_format.specs.Refusal.{count-too-large}
 use Rattle.vmd_format.specs.Answer.{Answer, declined, given, and-then, map-answer, unless}
 use Rattle.vmd_format.specs.Read.{Step, refused, got, Manner}
 use Rattle.vmd_format.specs.ReadLaws.{Always}
@@ -95,15 +95,7 @@ module _ (m : Manner) where
             (join-is a (write-take (join u v)) (h .reads) (take-back m (join u v) x) (fit-before f) ∙ ap (λ y. given (write-take y)) (sym (join-assoc t u v))),
       )
 
-  -- what a join refuses: a refused file's number, the first file's first; 11 exactly where a sum passes 4,294,967,295
-  pub join-first-refused : (a b : List ℕ) {k : Refusal} → read-take m a ≡ declined k → join-files m a b ≡ declined k
-  unfolding join-files and-then
-  join-first-refused a b h = rw h
-
-  pub join-second-refused : (a b : List ℕ) {t : Take} {k : Refusal} → read-take m a ≡ given t → read-take m b ≡ declined k → join-files m a b ≡ declined k
-  unfolding join-files and-then
-  join-second-refused a b h l = rw (h, l)
-
+  -- 11 exactly where a sum passes 4,294,967,295
   pub join-too-large : {a b : List ℕ} {t u : Take} → Accepted m a t → Accepted m b u
       → (join-files m a b ≡ declined count-too-large) ↔ (Fit t u → ⊥)
   unfolding join-files and-then join-takes unless

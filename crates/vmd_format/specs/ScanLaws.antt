@@ -63,14 +63,14 @@ Matches s model (refused k) (given x) = ⊥
 Matches s model (got f r) (declined j) = ⊥
 Matches s model (got f r) (given x) = (f .model ≡ model) × Agrees s f x
 
-within-part : (size : ℕ) (s : List ℕ) (x : Span) → Within size s x → ExtentWithin size s (extent-in x)
+within-extent : (size : ℕ) (s : List ℕ) (x : Span) → Within size s x → ExtentWithin size s (extent-in x)
 unfolding extent-in
-within-part size s x w = record { place = w .place; ends = omega (arith, w .next, w .ends) }
+within-extent size s x w = record { place = w .place; ends = omega (arith, w .next, w .ends) }
 
--- a part of the file is found again from its section
-part-found : {A : Type 0} (K : Layout A) (s : List ℕ) (p : Extent) → p .place ≤ length s → extent-of s (section-in K s p) ≡ p
+-- an extent is found again from its section
+extent-found : {A : Type 0} (K : Layout A) (s : List ℕ) (p : Extent) → p .place ≤ length s → extent-of s (section-in K s p) ≡ p
 unfolding extent-of section-in
-part-found K s p h =
+extent-found K s p h =
     let e : length s - length (drop (p .place) s) ≡ p .place = rw length-drop (omega arith) in
     rw (table-length K (p .count) (drop (p .place) s), e)
 
@@ -157,21 +157,21 @@ module _ (m : Manner) (s model : List ℕ) where
   file-found b f c l d p i t w wb wf wc wl wd wp a e = let k : ik-total i ≡ w .ik-states = omega (arith, a .ik-states) in record {
     file = rw (a .frames);
     scan = λ j. record {
-      bones = part-found bone s (extent-in b) (wb .place) j;
-      morphs = part-found morph s (extent-in f) (wf .place) j;
-      cameras = part-found camera s (extent-in c) (wc .place) j;
-      lights = part-found light s (extent-in l) (wl .place) j;
-      self-shadows = part-found self-shadow s (extent-in d) (wd .place) j;
+      bones = extent-found bone s (extent-in b) (wb .place) j;
+      morphs = extent-found morph s (extent-in f) (wf .place) j;
+      cameras = extent-found camera s (extent-in c) (wc .place) j;
+      lights = extent-found light s (extent-in l) (wl .place) j;
+      self-shadows = extent-found self-shadow s (extent-in d) (wd .place) j;
       properties = frames-found s (extent-in p) i (wp .place) (a .frames) j;
       ik-states = k j;
     };
     inside = record {
-      bones = within-part 111 s b wb;
-      morphs = within-part 23 s f wf;
-      cameras = within-part 61 s c wc;
-      lights = within-part 28 s l wl;
-      self-shadows = within-part 9 s d wd;
-      properties = within-part 9 s p wp;
+      bones = within-extent 111 s b wb;
+      morphs = within-extent 23 s f wf;
+      cameras = within-extent 61 s c wc;
+      lights = within-extent 28 s l wl;
+      self-shadows = within-extent 9 s d wd;
+      properties = within-extent 9 s p wp;
       next = w .next;
       walked = e;
     };

@@ -16,7 +16,7 @@ use Rattle.vmd_format.specs.Read.{Manner}
 use Rattle.vmd_format.specs.Opening.{Scan, Opening, open-file, scratch-after}
 use Rattle.vmd_bytes.specs.Slices.{splice, run}
 use Rattle.vmd_bytes.specs.Written.{Room, Wrote}
-use Rattle.vmd_bytes.proofs.Laws.{length-splice, splice-nil, set-splice, part-snoc}
+use Rattle.vmd_bytes.proofs.Laws.{length-splice, splice-nil, set-splice, run-snoc}
 use Rattle.vmd_bytes.proofs.Writes.{rest-all, rest-then, rest-done}
 use Rattle.vmd_line.specs.Line.{tens-if, digits, decimal, spaced, row, too-long, refused-line, export-size, numbers, line-of, line-if, line, line-scratch-if, line-scratch}
 
@@ -113,7 +113,7 @@ row-turn ns o out k from at i end g h w r d f =
     let u = spaced (run ns 1 (i - 1)) in
     let a : i + 1 - 1 ≡ i - 1 + 1 = omega arith in
     let b : 1 + (i - 1) ≡ i = omega arith in
-    let p : run ns 1 (i - 1 + 1) ≡ run ns 1 (i - 1) ++ (getD ns i 0 ∷ []) = rw (part-snoc ns 1 (i - 1) (omega arith), b) in
+    let p : run ns 1 (i - 1 + 1) ≡ run ns 1 (i - 1) ++ (getD ns i 0 ∷ []) = rw (run-snoc ns 1 (i - 1) (omega arith), b) in
     rw (a, p, spaced-snoc (run ns 1 (i - 1)) (getD ns i 0), ← append-assoc u (32 ∷ []) (decimal (getD ns i 0)))
     (wrote-more (wrote-byte w 32 r) d f)
 

@@ -5,9 +5,10 @@ use mathlib.Core.List.{List}
 use native.Mathlib.Nat.{add-zero}
 use lib.ListN.{take, drop}
 use lib.Seq.{drop-drop}
-use Rattle.vmd_format.specs.Layout.{Layout, number, byte, flag, inverted, name, raw, _⊗_, as-record}
+use Rattle.vmd_format.specs.Layout.{Layout, number, flag, name, raw, _⊗_, as-record}
 use Rattle.vmd_format.specs.Answer.{Answer, declined, given, and-then, map-answer}
 use Rattle.vmd_format.specs.Records.{bone, morph, camera, light, self-shadow, ik-state}
+use Rattle.vmd_format.specs.SizedLaws.{bone-sized, morph-sized, camera-sized, light-sized, self-shadow-sized, ik-state-sized}
 use Rattle.vmd_format.specs.Opening.{Extent}
 use Rattle.vmd_format.specs.Fetch.{record-place, fetch, or-empty, property-place, ik-extent, fetch-ik-state}
 use Rattle.vmd_places.specs.Meaning.{ik-place}
@@ -17,28 +18,22 @@ use Rattle.vmd_places.proofs.Parts.{Front, front-name, front-bytes, the
 -- ---- sizes of records
 
 pub bone-size : bone .size ≡ 111
-unfolding bone as-record _⊗_ name number raw
-bone-size = refl
+bone-size = bone-sized .size
 
 pub morph-size : morph .size ≡ 23
-unfolding morph as-record _⊗_ name number
-morph-size = refl
+morph-size = morph-sized .size
 
 pub camera-size : camera .size ≡ 61
-unfolding camera as-record _⊗_ number raw inverted
-camera-size = refl
+camera-size = camera-sized .size
 
 pub light-size : light .size ≡ 28
-unfolding light as-record _⊗_ number
-light-size = refl
+light-size = light-sized .size
 
 pub self-shadow-size : self-shadow .size ≡ 9
-unfolding self-shadow as-record _⊗_ number byte
-self-shadow-size = refl
+self-shadow-size = self-shadow-sized .size
 
 ik-size : ik-state .size ≡ 21
-unfolding ik-state as-record _⊗_ name flag
-ik-size = refl
+ik-size = ik-state-sized .size
 
 -- ---- fields
 

@@ -252,7 +252,7 @@ pub fn ik_state(
 
 // ---- names and interpolation bytes, parts of the file: where each stands, and the part itself
 
-// Nowhere, and empty, where there is no such record.
+// Nowhere, and empty, where there is no such record or its name is empty.
 pub fn bone_name_part(file: &[u8], opening: VmdOpening, i: usize) -> VmdPart
     ensures { λ r. ⌜ r ≡ part-in (record-place 111 (opening-is opening .scan .bones) i (now (file .entry))) 0 (or-empty (map-answer (λ x. x .name) (fetch bone (opening-is opening .scan .bones) i (now (file .entry))))) ⌝ }
 {

@@ -76,8 +76,8 @@ scan-back o s at =
     and-then (optional-span (refuse file-ends-early) 9 s (d .next)) λ p.
     given (record { lights = extent-in l; self-shadows = extent-in d; properties = extent-in p })
 
-abbrev pub scan-parts : Front → Back → ℕ → Scan
-scan-parts f b n = record {
+abbrev pub scan-joined : Front → Back → ℕ → Scan
+scan-joined f b n = record {
   bones = f .bones;
   morphs = f .morphs;
   cameras = f .cameras;
@@ -90,4 +90,4 @@ scan-parts f b n = record {
 unfoldable pub scan-end : BytesOver → List ℕ → Front → Back → Answer Scan
 scan-end v s f b =
     and-then (walk s (b .properties .count) (b .properties .place) 0) λ w.
-    over-if (leb (length s) (w .next)) v (scan-parts f b (w .ik-states))
+    over-if (leb (length s) (w .next)) v (scan-joined f b (w .ik-states))

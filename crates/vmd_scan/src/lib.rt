@@ -29,7 +29,7 @@ ghost use Rattle.vmd_format.specs.ScanLaws.{ExtentWithin, Inside};
 ghost use Rattle.vmd_base.specs.Meaning.{manner-of, extent-is};
 ghost use Rattle.vmd_records.specs.Kinds.{size-of};
 ghost use Rattle.vmd_places.specs.Parts.{file-part};
-ghost use Rattle.vmd_scan.specs.Stages.{read-number, optional-number, counted-span, scan-front, scan-back, scan-parts, scan-end};
+ghost use Rattle.vmd_scan.specs.Stages.{read-number, optional-number, counted-span, scan-front, scan-back, scan-joined, scan-end};
 ghost use Rattle.vmd_scan.specs.Frames.{no-frames, with-frame, with-records, with-properties, frames-of};
 ghost use Rattle.vmd_scan.specs.Meaning.{oversized-of, over-of, scan-is, header-answer, number-answer, optional-answer, span-answer, walk-answer, front-is, back-is, front-answer, back-answer, scan-answer};
 
@@ -506,7 +506,7 @@ fn ended_at(file: &[u8], next: usize, over: BytesOver, sections: VmdSections) ->
 }
 
 fn all_sections(front: FrontSections, back: BackSections, ik_states: u64) -> VmdSections
-    ensures { λ r. ⌜ scan-is r ≡ scan-parts (front-is front) (back-is back) «ik_states» ⌝ }
+    ensures { λ r. ⌜ scan-is r ≡ scan-joined (front-is front) (back-is back) «ik_states» ⌝ }
 {
     let bones = front.bones;
     let morphs = front.morphs;

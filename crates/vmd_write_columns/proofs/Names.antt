@@ -18,7 +18,7 @@ use Rattle.vmd_format.specs.Parts.{passes, each, names-from, names-of, table-ri
 use Rattle.vmd_format.specs.PartsLaws.{all-at, next-passes, need-passes, each-passes}
 use Rattle.vmd_bytes.specs.Slices.{splice, run}
 use Rattle.vmd_bytes.specs.Words.{digits, repeated}
-use Rattle.vmd_bytes.proofs.Laws.{splice-append-at, splice-over-end, length-part, take-part, drop-part, length-u32-bytes}
+use Rattle.vmd_bytes.proofs.Laws.{splice-append-at, splice-over-end, length-run, take-run, drop-run, length-u32-bytes}
 use Rattle.vmd_bytes.proofs.Words.{length-digits}
 use Rattle.vmd_check_tables.specs.Meaning.{table-of}
 use Rattle.vmd_check_tables.proofs.Tables.{table-between, table-name-there}
@@ -91,13 +91,13 @@ module _ (s : List ℕ) (at n : ℕ) where
   first-word =
       ⊎-elim
       (λ (h : n - 8 ≡ 0). let q : n - (n - 8) ≡ n = omega arith in rw q)
-      (λ (h : 0 < n - 8). let q : n - (n - 8) ≡ 8 = omega arith in rw q (sym (ap (padded 8) (take-part s at n 8 (omega arith))) ∙ padded-cut 8 (run s at n)))
+      (λ (h : 0 < n - 8). let q : n - (n - 8) ≡ 8 = omega arith in rw q (sym (ap (padded 8) (take-run s at n 8 (omega arith))) ∙ padded-cut 8 (run s at n)))
       (eq-zero-or-pos (n - 8))
 
   two-words : n ≤ 16 → padded 8 (take (n - (n - 8)) (run s at 8)) ++ padded 8 (take (n - 8) (run s (at + 8) 8)) ≡ padded 16 (run s at n)
   two-words h =
-      rw (take-part s at 8 (n - (n - 8)) (omega arith), take-part s (at + 8) 8 (n - 8) (omega arith), first-word)
-      (sym (padded-append 8 8 (run s at n) ∙ ap (λ (t : List ℕ). padded 8 (run s at n) ++ padded 8 t) (drop-part s at n 8)))
+      rw (take-run s at 8 (n - (n - 8)) (omega arith), take-run s (at + 8) 8 (n - 8) (omega arith), first-word)
+      (sym (padded-append 8 8 (run s at n) ∙ ap (λ (t : List ℕ). padded 8 (run s at n) ++ padded 8 t) (drop-run s at n 8)))
 
 pub name-written : {p : ℕ} {a o : List ℕ} (x y u v : ℕ) (s : List ℕ) (at n : ℕ) (l : List ℕ) (to : ℕ) → n ≤ 15 → to + 16 ≤ length l → p ≡ n - 8
     → digits 8 x ≡ run s at 8 → digits 8 u ≡ padded 8 (take (n - p) (digits 8 x)) → digits 8 y ≡ run s (at + 8) 8 → digits 8 v ≡ padded 8 (take p (digits 8 y))
@@ -153,6 +153,6 @@ named-from {start} s l j t c h e =
     record {
       begins = omega arith;
       within = b .1;
-      short = omega (arith, length-part s start (getD l j 0 - start) (omega arith), ap length q, table-short s l j c h);
+      short = omega (arith, length-run s start (getD l j 0 - start) (omega arith), ap length q, table-short s l j c h);
       is = q;
     }

@@ -1,4 +1,4 @@
--- What writing meets: the parts as the checks let them through, and the bytes in two halves. Definitions only.
+-- What writing meets: the columns as the checks let them through. Definitions only.
 use Prim.Native.Nat.{ℕ, _+_, _*_, _≤_}
 use mathlib.Core.Path.{_≡_}
 use mathlib.Core.Bool.{true}

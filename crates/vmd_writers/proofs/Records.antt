@@ -15,7 +15,7 @@ use Rattle.vmd_format.specs.SizedLaws.{Sized, section-length, table-first, tabl
 use Rattle.vmd_format.specs.PlacesLaws.{table-length}
 use Rattle.vmd_bytes.specs.Slices.{splice, run}
 use Rattle.vmd_bytes.specs.Written.{Room, Wrote}
-use Rattle.vmd_bytes.proofs.Laws.{splice-snoc-at, length-part, name-wider}
+use Rattle.vmd_bytes.proofs.Laws.{splice-snoc-at, length-run, name-wider}
 use Rattle.vmd_bytes.proofs.Writes.{less-one, Filling, filling-start, filling-turn, filling-end}
 
 -- ---- one record
@@ -23,17 +23,11 @@ use Rattle.vmd_bytes.proofs.Writes.{less-one, Filling, filling-start, filling-t
 -- a copy through an array: what is written at its front is what is read there
 pub through : {m o : List ℕ} (r s l : List ℕ) (at to n : ℕ) → at + n ≤ length s → m ≡ splice r 0 (run s at n) → o ≡ splice l to (run m 0 n) → o ≡ splice l to (run s at n)
 unfolding splice run
-through r s l at to n h e f = f ∙ rw (e, take-at (run s at n) (drop (0 + length (run s at n)) r) n (length-part s at n h))
+through r s l at to n h e f = f ∙ rw (e, take-at (run s at n) (drop (0 + length (run s at n)) r) n (length-run s at n h))
 
 module _ {A : Type 0} {K : Layout A} (s l : List ℕ) (at to : ℕ) (b : Bytes s) where
   rewritten : (w : ℕ) (f : List ℕ → List ℕ) → Rewrites K w f → at + w ≤ length s → K .encode (K .decode (drop at s)) ≡ f (drop at s)
   rewritten w f r h = r .is (drop at s) (bytes-drop at s b) (rw length-drop (omega arith))
-
-  -- bytes that stay are copied
-  pub copied : {o : List ℕ} (w : ℕ) → Rewrites K w (take w) → at + w ≤ length s
-      → o ≡ splice l to (run s at w) → o ≡ splice l to (K .encode (K .decode (drop at s)))
-  unfolding run
-  copied w r h e = e ∙ ap (splice l to) (sym (rewritten w (take w) r h))
 
   -- a name is written one byte too wide, and then the n bytes after it
   pub named : {m o : List ℕ} (w n : ℕ) → Rewrites K (w + n) (λ s. padded w (before-zero (take w s)) ++ take n (drop w s))
@@ -42,7 +36,7 @@ module _ {A : Type 0} {K : Layout A} (s l : List ℕ) (at to : ℕ) (b : Bytes s
       → o ≡ splice l to (K .encode (K .decode (drop at s)))
   unfolding run
   named w n r h hs hl e f =
-      let k : length (run s (at + w) n) ≡ n = length-part s (at + w) n (omega arith) in
+      let k : length (run s (at + w) n) ≡ n = length-run s (at + w) n (omega arith) in
       f ∙ rw e (name-wider s l (run s (at + w) n) at to w 1 (omega arith) (omega arith) (omega arith) ∙ rw (rewritten (w + n) _ r hs, drop-drop))
 
   -- w bytes are written, and then a flag

@@ -4,7 +4,7 @@ use native.Mathlib.Omega.{arith}
 use denote.Ref.{now}
 use borrow.Author.Needs.{needs}
 use Rattle.vmd_bytes.specs.Slices.{run}
-use Rattle.vmd_bytes.proofs.Laws.{part-all, padded-long, splice-padded}
+use Rattle.vmd_bytes.proofs.Laws.{run-all, padded-long, splice-padded}
 use Rattle.vmd_bytes.proofs.write_fixed_bytes.Statement.{statement}
 use Rattle.vmd_bytes.proofs.write_fixed_bytes.Tie as tie
 
@@ -19,7 +19,7 @@ returns-2 c =
     let copied = c .before .before .before .before .before .before in
     let s = copied .before .before .before .before .before .args in
     c .before .before .fill-zeros .ensures
-    ∙ rw (copied .copy-bytes2 .ensures, part-all) (splice-padded (now (s .out)) (now (s .value)) (s .to) (s .width) (omega arith) (omega arith))
+    ∙ rw (copied .copy-bytes2 .ensures, run-all) (splice-padded (now (s .out)) (now (s .value)) (s .to) (s .width) (omega arith) (omega arith))
 
 pub write-fixed-bytes-spec : {M : Type 1} → statement M
 write-fixed-bytes-spec =

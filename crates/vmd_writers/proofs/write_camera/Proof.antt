@@ -3,7 +3,7 @@ use native.Mathlib.Omega.{arith}
 use denote.Ref.{now}
 use borrow.Author.Needs.{needs}
 use Rattle.vmd_format.specs.Bytes.{is-zero, inverted-byte}
-use Rattle.vmd_bytes.proofs.Laws.{length-part}
+use Rattle.vmd_bytes.proofs.Laws.{length-run}
 use Rattle.vmd_format.specs.Rewriting.{camera-rewrites}
 use Rattle.vmd_writers.proofs.Records.{flagged}
 use Rattle.vmd_writers.proofs.write_camera.Statement.{statement}
@@ -14,7 +14,7 @@ returns c =
     let front = c .before .before .before .before in
     let known = front .before .before .before in
     let s = known .before .args in
-    flagged (now (s .src)) (now (s .out)) (s .at) (s .to) (λ i. known .shared-slice-known .given i .fits) 60 (λ u. u) (λ b. inverted-byte (is-zero b)) camera-rewrites (length-part _ _ _ (omega arith)) (omega arith) (omega arith)
+    flagged (now (s .src)) (now (s .out)) (s .at) (s .to) (λ i. known .shared-slice-known .given i .fits) 60 (λ u. u) (λ b. inverted-byte (is-zero b)) camera-rewrites (length-run _ _ _ (omega arith)) (omega arith) (omega arith)
     (front .copy-camera-front .ensures) (c .canonical-inverted .ensures)
 
 pub write-camera-spec : {M : Type 1} → statement M
