@@ -1,4 +1,4 @@
-//! The C interface (`include/vmd.h`) as safe functions, and all of this crate's unsafe code.
+//! The C interface (`include/vmd.h`) as safe functions. The only other unsafe code of the crate is system.rs.
 //!
 //! What makes the calls sound: slices and references of Rust are aligned and good for their length, a `&mut` overlaps nothing
 //! else, and the slots have the lengths that the header gives: their types are the declared ones. That a call stays inside

@@ -9,7 +9,8 @@ macro_rules! refusals {
         #[non_exhaustive]
         pub enum Refusal {
             $($(#[$doc])* $name,)*
-            /// A number that this crate has no name for: the library is newer than the crate.
+            /// A number that this crate has no name for: the library is newer than the crate. It is matched as
+            /// `Refusal::Other { .. }`, and [`Refusal::number`] gives the number.
             #[non_exhaustive]
             Other(u32),
         }

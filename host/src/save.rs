@@ -137,6 +137,10 @@ fn linked_to(path: &Path) -> Result<PathBuf, SaveError> {
     for _ in 0..40 {
         // no link, or no such file
         let Ok(link) = fs::read_link(&target) else { return Ok(target) };
+        // What is open there may be a log that is appended to, and is nobody's take.
+        if fs::canonicalize(folder_of(&target)).is_ok_and(|folder| folder.starts_with("/proc")) {
+            return Err(io::Error::other("it is a descriptor; '-' is standard output")).doing("replace the file", path);
+        }
         may_follow(&target).doing("follow the link", &target)?;
         target = target.parent().unwrap_or(Path::new("")).join(link);
     }
@@ -169,22 +173,14 @@ fn replaceable(path: &Path, target: &Path) -> Result<Option<File>, SaveError> {
     if !found.is_file() {
         return refused("replace the file", "it is no regular file");
     }
-    if path != target && !leads_to(path, target) {
-        return refused("replace the file", "it has no name"); // a link of /proc to a file that was removed
-    }
     if found.permissions().readonly() {
         return refused("write to the file", "it is read-only");
     }
-    OpenOptions::new().write(true).open(target).doing("write to the file", path).map(Some)
-}
-
-/// Whether a link leads to the file of this name. Another save may put a new file there between the two looks, so a
-/// difference is looked at again.
-fn leads_to(link: &Path, name: &Path) -> bool {
-    (0..100).any(|_| match (fs::metadata(link), fs::symlink_metadata(name)) {
-        (Ok(there), Ok(named)) => FileId::of(&there) == FileId::of(&named),
-        _ => false,
-    })
+    let old = OpenOptions::new().write(true).open(target).doing("write to the file", path)?;
+    if target.file_name().is_some_and(is_new_name) && matches!(old.try_lock(), Err(TryLockError::WouldBlock)) {
+        return refused("replace the file", "another save is writing it");
+    }
+    Ok(Some(old))
 }
 
 fn compare(file: &mut File, bytes: &[u8]) -> io::Result<()> {
@@ -250,6 +246,10 @@ impl NewFile {
     }
 
     fn take_name(&mut self, target: &Path) -> io::Result<()> {
+        // Removed by hand, or by a save on another machine that does not see the lock: the name may be another's by now.
+        if !is_named(&self.file, &self.path) {
+            return Err(io::Error::other("the new file was removed by another program"));
+        }
         fs::rename(&self.path, target)?;
         self.ours = false;
         self.path = target.to_owned();
@@ -259,7 +259,7 @@ impl NewFile {
 
 impl Drop for NewFile {
     fn drop(&mut self) {
-        if self.ours {
+        if self.ours && is_named(&self.file, &self.path) {
             let _ = fs::remove_file(&self.path);
         }
     }
@@ -284,5 +284,50 @@ fn is_named(file: &File, path: &Path) -> bool {
     match (file.metadata(), fs::symlink_metadata(path)) {
         (Ok(open), Ok(named)) => FileId::of(&open) == FileId::of(&named),
         _ => false,
+    }
+}
+
+#[cfg(test)]
+mod tests {
+    use super::*;
+
+    /// A folder of its own, removed at the end.
+    struct Folder(PathBuf);
+
+    impl Folder {
+        fn new(name: &str) -> Folder {
+            let path = std::env::temp_dir().join(format!("vmd-save-{name}-{}", std::process::id()));
+            fs::create_dir(&path).unwrap();
+            Folder(path)
+        }
+    }
+
+    impl Drop for Folder {
+        fn drop(&mut self) {
+            let _ = fs::remove_dir_all(&self.0);
+        }
+    }
+
+    #[test]
+    fn a_new_file_whose_name_is_anothers_by_now() {
+        let folder = Folder::new("name");
+        let target = folder.0.join("take");
+        fs::write(&target, b"old").unwrap();
+        let mut new = NewFile::create(&target, true).unwrap();
+        new.file.write_all(b"new").unwrap();
+        fs::remove_file(&new.path).unwrap();
+        fs::write(&new.path, b"another's").unwrap();
+        new.take_name(&target).unwrap_err();
+        let path = new.path.clone();
+        drop(new);
+        assert_eq!((fs::read(&target).unwrap(), fs::read(&path).unwrap()), (b"old".to_vec(), b"another's".to_vec()));
+    }
+
+    #[test]
+    fn a_target_that_another_save_is_writing() {
+        let folder = Folder::new("written");
+        let other = NewFile::create(&folder.0.join("take"), true).unwrap();
+        save(&other.path, b"take").unwrap_err();
+        assert!(is_named(&other.file, &other.path) && fs::read(&other.path).unwrap().is_empty());
     }
 }

@@ -447,13 +447,18 @@ fn outputs_that_are_descriptors() {
     assert_eq!((status(&done), err(&done), done.stdout), (0, String::new(), take.clone()));
     assert_eq!(status(&run("exec > out", "/dev/stdout")), 0);
     assert_eq!(fs::read(folder.join("out")).unwrap(), take);
-    for (settings, to, sentence) in [
-        (":", "/dev/fd/1", "cannot replace the file: it is no regular file"),
-        ("exec 3> gone; rm gone", "/dev/fd/3", "cannot replace the file: it has no name"),
+    // A log that is appended to is no take, whatever it is called.
+    folder.file("log", b"first line\n");
+    for (settings, to) in [
+        (":", "/dev/fd/1"),
+        ("exec 3> gone; rm gone", "/dev/fd/3"),
+        ("exec 3>> log", "/dev/fd/3"),
+        ("exec 3>> log", "/proc/self/fd/3"),
     ] {
         let done = run(settings, to);
         assert_eq!((status(&done), out(&done)), (2, String::new()));
-        assert_eq!(err(&done), format!("vmd: {to}: {sentence}\n"));
+        assert_eq!(err(&done), format!("vmd: {to}: cannot replace the file: it is a descriptor; '-' is standard output\n"));
     }
-    assert_eq!(folder.names(), ["out", "take"]);
+    assert_eq!(fs::read(folder.join("log")).unwrap(), b"first line\n");
+    assert_eq!(folder.names(), ["log", "out", "take"]);
 }
