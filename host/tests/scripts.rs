@@ -30,8 +30,10 @@ const CARGO: &str = r#"#!/bin/sh
 echo "cargo $*" >> "$ROOT/calls"
 echo '   Compiling vmd' >&2
 [ ! -e "$ROOT/fail-cargo" ] || { echo 'error: it does not compile' >&2; exit 101; }
-mkdir -p ../target/host/release
-printf '#!/bin/sh\necho "ran $*"\n' > ../target/host/release/vmd && chmod +x ../target/host/release/vmd
+into=${CARGO_TARGET_DIR:-../target/host}
+while [ $# -gt 0 ]; do [ "$1" != --target-dir ] || into=$2; shift; done
+mkdir -p "$into/release"
+printf '#!/bin/sh\necho "ran $*"\n' > "$into/release/vmd" && chmod +x "$into/release/vmd"
 "#;
 
 /// A repository with the scripts, a crate's source, and the toolchain that stands in.
@@ -60,7 +62,7 @@ fn age(folder: &Folder, name: &str, seconds: u64) {
 fn script(folder: &Folder, words: &[&str]) -> Command {
     let mut command = Command::new(folder.join(words[0]));
     let path = format!("{}:{}", folder.join("tools").display(), std::env::var("PATH").unwrap());
-    command.args(&words[1..]).env("PATH", path).env("ROOT", &folder.0).env_remove("VMD_LIB");
+    command.args(&words[1..]).env("PATH", path).env("ROOT", &folder.0).env_remove("VMD_LIB").env_remove("CARGO_TARGET_DIR");
     command.stdin(Stdio::null()).stdout(Stdio::piped()).stderr(Stdio::piped());
     command
 }
@@ -109,6 +111,20 @@ fn vmd_shows_what_it_is_doing() {
     assert_eq!(calls(&folder), 4);
     assert_eq!(err(&run(&folder, &["vmd", "list"])), "");
     assert_eq!(calls(&folder), 4);
+}
+
+/// Where the caller has cargo build elsewhere, what is run is still what was built, and not an older program.
+#[test]
+fn vmd_is_built_where_it_is_run() {
+    let folder = repository("elsewhere");
+    folder.file("go", b"");
+    let old = folder.join("target/host/release/vmd");
+    fs::create_dir_all(old.parent().unwrap()).unwrap();
+    fs::write(&old, "#!/bin/sh\necho old\n").unwrap();
+    fs::set_permissions(&old, Permissions::from_mode(0o755)).unwrap();
+    age(&folder, "target/host/release/vmd", 20);
+    let done = script(&folder, &["vmd", "list"]).env("CARGO_TARGET_DIR", folder.join("elsewhere")).output().unwrap();
+    assert_eq!((status(&done), out(&done)), (0, "ran list\n".into()), "{}", err(&done));
 }
 
 #[test]
