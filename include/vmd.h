@@ -1,5 +1,5 @@
 /*
- * VMD takes (MikuMikuDance motion files): read, saved, joined and built.
+ * VMD takes (MikuMikuDance motion files): read, saved, joined, built from parts and split into them.
  *
  * The functions are those of the proved library, built by 'rt staticlib vmd_c'. They allocate nothing, keep no state, and
  * can be called from any thread.
@@ -41,7 +41,8 @@ enum vmd_refusal {
     VMD_COLUMNS_DISAGREE = 10,  /* bone or morph column lengths disagree */
     VMD_COUNT_TOO_LARGE = 11,   /* a section count above 4,294,967,295 */
     VMD_NAME_INDEX = 12,        /* name index at or above the table's length */
-    VMD_OUTPUT_TOO_SHORT = 13   /* output shorter than the file to be written */
+    VMD_OUTPUT_TOO_SHORT = 13,  /* output shorter than the file to be written */
+    VMD_PARTS_DO_NOT_FIT = 14   /* a buffer for parts is too short, or a name table passes 4,294,967,295 bytes */
 };
 
 /* Bytes of each record in a file. */
@@ -200,6 +201,51 @@ uint32_t vmd_build_animation_from_parts(const uint8_t *model_name, size_t model_
                                         const uint32_t *morph_frames, size_t morph_frames_len,
                                         const float *morph_weights, size_t morph_weights_len,
                                         uint8_t *out, size_t out_len, uint64_t *written);
+
+/*
+ * ---- parts out of a take
+ *
+ * What the builder takes, out of an accepted file: each part is written at the front of its buffer, and further elements keep
+ * their contents. A name table holds the distinct names of the records, in order of first appearance; each record has its
+ * name's index. Cameras, lights, self-shadows and properties, with their IK states, are records in canonical form. sizes
+ * receives the number of bone names and of their bytes, and of morph names and of theirs; how long every other part is
+ * follows from the opening's counts and number of IK states. The model name has a call of its own, vmd_model_name.
+ *
+ * Floats are written as their 32 bits. To build from them, declare the three columns as float and lend them here as
+ * uint32_t *: the two have the same size and alignment, and the builder reads the same memory as floats. Where the builder
+ * takes the parts, its file is the file's export.
+ *
+ * Refusals: 1, 2; then 14 where a buffer is too short or a name table passes 4,294,967,295 bytes. Needed are, with b bones, m
+ * morphs, c cameras, l lights, s self-shadows, p properties and k IK states: 61c, 28l, 9s and 9p + 21k bytes of records; b, b,
+ * 3b, 4b and 64b; m, m and m elements; and the tables, as vmd_split_sizes gives them. Tables of 15 bytes and one end for each
+ * record are long enough for any names where 15 bytes for each record are at most 4,294,967,295 (286,331,153 records).
+ *
+ * With such tables no names are counted first. With a shorter one a split counts the section's names, as vmd_split_sizes
+ * does: both go over the records once for every 16,384 to 32,768 different names. So names whose tables are as long as
+ * vmd_split_sizes says are counted twice. Both calls take up to 256 KiB of stack; they take longest where nearly all names
+ * differ.
+ */
+
+/* The four numbers alone. Refusals: 1, 2; 14 where a name table would pass 4,294,967,295 bytes. */
+uint32_t vmd_split_sizes(const uint8_t *file, size_t file_len, uint64_t sizes[4]);
+uint32_t vmd_split_animation_into_parts(const uint8_t *file, size_t file_len,
+                                        uint8_t *bone_name_bytes, size_t bone_name_bytes_len,
+                                        uint32_t *bone_name_ends, size_t bone_name_ends_len,
+                                        uint8_t *morph_name_bytes, size_t morph_name_bytes_len,
+                                        uint32_t *morph_name_ends, size_t morph_name_ends_len,
+                                        uint8_t *camera_frames, size_t camera_frames_len,
+                                        uint8_t *light_frames, size_t light_frames_len,
+                                        uint8_t *self_shadow_frames, size_t self_shadow_frames_len,
+                                        uint8_t *property_frames, size_t property_frames_len,
+                                        uint32_t *bone_name_indices, size_t bone_name_indices_len,
+                                        uint32_t *bone_frames, size_t bone_frames_len,
+                                        uint32_t *bone_translations_xyz, size_t bone_translations_xyz_len,
+                                        uint32_t *bone_rotations_xyzw, size_t bone_rotations_xyzw_len,
+                                        uint8_t *bone_interpolations, size_t bone_interpolations_len,
+                                        uint32_t *morph_name_indices, size_t morph_name_indices_len,
+                                        uint32_t *morph_frames, size_t morph_frames_len,
+                                        uint32_t *morph_weights, size_t morph_weights_len,
+                                        uint64_t sizes[4]);
 
 #ifdef __cplusplus
 }

@@ -1,5 +1,6 @@
-//! How long reading, saving, joining and building take, as multiples of a plain copy of the same bytes, in one process. The
-//! original Rust is measured beside where it is built in (feature `original`). Prints the tables of docs/PERFORMANCE.md.
+//! How long reading, saving, joining, building and splitting take, as multiples of a plain copy of the same bytes, in one
+//! process. The original Rust is measured beside where it is built in (feature `original`). Prints the tables of
+//! docs/PERFORMANCE.md.
 //!
 //! Times are the process's CPU time. A call and its copy are measured one after the other, each in the same state of the
 //! caches: other memory is read, twice as much as the last cache holds, and then it runs several times. The first run is
@@ -19,6 +20,7 @@ mod calls;
 mod measure;
 #[cfg(feature = "original")]
 mod original;
+mod split;
 mod takes;
 
 /// What is measured of the original.
@@ -336,6 +338,7 @@ fn main() {
         _ => (false, &words[..]),
     };
     let (full, sizes) = if quick { (MIB, vec![KIB, MIB]) } else { (32 * MIB, vec![KIB, MIB, 32 * MIB, 256 * MIB]) };
+    let split_sizes = if quick { &[MIB][..] } else { &[MIB, 4 * MIB, 16 * MIB, 32 * MIB] };
     match words {
         [] => {}
         [option, rest @ ..] if option == "--memory" => return memory_of(rest),
@@ -343,8 +346,16 @@ fn main() {
             println!("Measured by `./bench` on {}.", machine());
             return against::table(full, effort(full).batch, [new, old]);
         }
+        [option] if option == "--split" => {
+            println!("Measured by `./bench` on {}.", machine());
+            return split::table(split_sizes, &Other::new());
+        }
+        [option] if option == "--names" => {
+            println!("Measured by `./bench` on {}.", machine());
+            return split::all_different(if quick { [30_000, 140_000] } else { [300_000, 1_400_000] });
+        }
         _ => {
-            eprintln!("bench: the options are --quick, which measures small takes, and --against LIBRARY");
+            eprintln!("bench: the options are --quick, which measures small takes, --split, --names and --against LIBRARY");
             std::process::exit(2);
         }
     }
@@ -361,5 +372,6 @@ fn main() {
         originals(full, &all);
     }
     growth(&sizes, &other);
+    split::table(split_sizes, &other);
     memory(full);
 }

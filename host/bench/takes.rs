@@ -77,6 +77,44 @@ impl Names {
     }
 }
 
+/// In which order a take's names come.
+#[derive(Clone, Copy, PartialEq)]
+pub enum Order {
+    Grouped,
+    InTurn,
+    Rising,
+    Falling,
+    Random,
+}
+
+impl Order {
+    pub fn name(self) -> &'static str {
+        match self {
+            Order::Grouped => "one after another",
+            Order::InTurn => "in turn",
+            Order::Rising => "rising",
+            Order::Falling => "falling",
+            Order::Random => "random",
+        }
+    }
+
+    /// The index of each record's name.
+    fn indices(self, records: usize, names: usize) -> Vec<u32> {
+        let mut indices: Vec<u32> = (0..records)
+            .map(|i| match self {
+                Order::Grouped => i * names / records,
+                Order::InTurn | Order::Rising | Order::Random => i % names,
+                Order::Falling => names - 1 - i % names,
+            } as u32)
+            .collect();
+        if self == Order::Random {
+            let mut random = Random(2_463_534_242);
+            (1..records).rev().for_each(|i| indices.swap(i, random.next() as usize % (i + 1)));
+        }
+        indices
+    }
+}
+
 /// How many names a take of so many records has.
 fn table(records: usize) -> usize {
     records.clamp(1, 97)
@@ -205,9 +243,30 @@ fn columns([bones, morphs, cameras]: [usize; 3], names: Names) -> Columns {
     c
 }
 
+/// A take of so many bytes and names.
+pub fn with_names(kind: Kind, names: usize, order: Order, size: usize) -> Vec<u8> {
+    let mut c = columns(kind.counts(size), Names::Padded);
+    c.bone_indices = order.indices(c.bone_frames.len(), names);
+    c.morph_indices = order.indices(c.morph_frames.len(), names);
+    file_with(&c, &(0..names).map(|n| Names::Padded.field(n)).collect::<Vec<_>>())
+}
+
+/// A take of so many bones or morphs, each with a name of its own. The names' bytes rise with their numbers.
+pub fn all_different(kind: Kind, order: Order, records: usize) -> Vec<u8> {
+    let counts = if kind == Kind::Bones { [records, 0, 0] } else { [0, records, 0] };
+    let mut c = columns(counts, Names::Padded);
+    c.bone_indices = order.indices(counts[0], records);
+    c.morph_indices = order.indices(counts[1], records);
+    let field = |n: usize| std::array::from_fn(|k| if k < 8 { b'A' + (n >> (28 - 4 * k)) as u8 % 16 } else { 0 });
+    file_with(&c, &(0..records).map(field).collect::<Vec<_>>())
+}
+
 /// The columns as a file, its names' fields in their own way.
 fn file(c: &Columns, names: Names) -> Vec<u8> {
-    let fields: Vec<_> = (0..c.name_ends.len()).map(|n| names.field(n)).collect();
+    file_with(c, &(0..c.name_ends.len()).map(|n| names.field(n)).collect::<Vec<_>>())
+}
+
+fn file_with(c: &Columns, fields: &[[u8; 15]]) -> Vec<u8> {
     let mut file = b"Vocaloid Motion Data 0002\0\0\0\0\0dancer".to_vec();
     file.resize(50, 0);
     file.reserve_exact(24 + 111 * c.bone_frames.len() + 23 * c.morph_frames.len() + c.cameras.len());

@@ -3,9 +3,10 @@
 //! What makes the calls sound: slices and references of Rust are aligned and good for their length, a `&mut` overlaps nothing
 //! else, and the slots have the lengths that the header gives: their types are the declared ones. That a call stays inside
 //! what it was lent, and writes all of the bytes it says it has written, is proved of the library.
-use crate::header;
-use crate::parts::Parts;
+use crate::header::{self, sizes};
+use crate::parts::{OwnedParts, Parts, PartsMut, TableSizes};
 use crate::refusal::{Error, Refusal};
+use crate::take::Take;
 
 /// What opening gives, lent to every fetch.
 #[derive(Clone, Debug)]
@@ -63,12 +64,19 @@ fn part_of(file: &[u8], [at, len]: [u64; 2]) -> &[u8] {
     &file[at as usize..(at + len) as usize]
 }
 
+/// Memory for just `len` elements, which is not cleared.
+fn reserve<T>(memory: &mut Vec<T>, len: u64) -> Result<usize, Error> {
+    let error = Error::NoMemory(len.saturating_mul(size_of::<T>() as u64));
+    let room = usize::try_from(len).map_err(|_| error)?;
+    memory.try_reserve_exact(room).map_err(|_| error)?;
+    Ok(room)
+}
+
 /// Memory for just `size` bytes, written by a call that is lent it and says how many it has written. The memory is not
 /// cleared before: an output of this size is written whole.
 fn written(size: u64, write: impl FnOnce(*mut u8, usize, *mut u64) -> u32) -> Result<Vec<u8>, Error> {
-    let mut out = Vec::<u8>::new();
-    let room = usize::try_from(size).map_err(|_| Error::NoMemory(size))?;
-    out.try_reserve_exact(room).map_err(|_| Error::NoMemory(size))?;
+    let mut out = Vec::new();
+    let room = reserve(&mut out, size)?;
     let mut len = 0;
     answered(write(out.as_mut_ptr(), room, &mut len))?;
     assert!(len <= size);
@@ -257,6 +265,146 @@ parts_calls! {
     morph_weights
 }
 
+/// How long the name tables are that [`split_into`] writes.
+pub fn split_sizes(file: &[u8]) -> Result<TableSizes, Refusal> {
+    let mut sizes = [0; 4];
+    // SAFETY: a slice, and an array of this function's own.
+    answered(unsafe { header::vmd_split_sizes(file.as_ptr(), file.len(), &mut sizes) })?;
+    Ok(table_sizes(sizes))
+}
+
+fn table_sizes([bone_names, bone_name_bytes, morph_names, morph_name_bytes]: [u64; 4]) -> TableSizes {
+    TableSizes { bone_names, bone_name_bytes, morph_names, morph_name_bytes }
+}
+
+/// The interpolation bytes of a bone frame.
+const BONE_INTERPOLATION: u64 = 64;
+
+/// How many elements each part has, in the header's order.
+fn lengths(opening: &Opening, tables: TableSizes) -> [u64; 16] {
+    let TableSizes { bone_names, bone_name_bytes, morph_names, morph_name_bytes } = tables;
+    let [b, m, c, l, s, p] = opening.counts.map(u64::from);
+    let [k, _] = opening.totals;
+    [
+        bone_name_bytes,
+        bone_names,
+        morph_name_bytes,
+        morph_names,
+        sizes::VMD_CAMERA_SIZE * c,
+        sizes::VMD_LIGHT_SIZE * l,
+        sizes::VMD_SELF_SHADOW_SIZE * s,
+        sizes::VMD_PROPERTY_SIZE * p + sizes::VMD_IK_STATE_SIZE * k,
+        b,
+        b,
+        3 * b,
+        4 * b,
+        BONE_INTERPOLATION * b,
+        m,
+        m,
+        m,
+    ]
+}
+
+/// Tables that are long enough for any names: 15 bytes and one end for each record, so that the library need not count the
+/// names before it writes them. Where no table may be as long as that, the names are counted.
+fn tables_to_lend(file: &[u8], opening: &Opening) -> Result<TableSizes, Refusal> {
+    let [bones, morphs, ..] = opening.counts.map(u64::from);
+    if 15 * bones.max(morphs) > u64::from(u32::MAX) {
+        return split_sizes(file);
+    }
+    Ok(table_sizes([bones, 15 * bones, morphs, 15 * morphs]))
+}
+
+/// An element of a part, and what the call that splits takes for it.
+trait Element {
+    type InC;
+}
+
+impl Element for u8 {
+    type InC = u8;
+}
+
+impl Element for u32 {
+    type InC = u32;
+}
+
+/// A float is lent as its bits: the two have the same size and alignment, and every value of the one is a value of the other.
+impl Element for f32 {
+    type InC = u32;
+}
+
+fn lend<T: Element>(memory: *mut T) -> *mut T::InC {
+    memory.cast()
+}
+
+/// The call that splits: each part is a pointer and a length, in the header's order.
+macro_rules! split_calls {
+    ($($part:ident)*) => {
+        /// The parts of a take at the fronts of lent memory, the rest of which stays as it is. Gives how long the two name
+        /// tables are; how long every other part is follows from the numbers of records and of IK states.
+        ///
+        /// Lent are, for b bones, m morphs, c cameras, l lights, s self-shadows and p properties with k IK states, at least
+        /// 61c, 28l, 9s and 9p + 21k bytes of records, columns of b, b, 3b, 4b and 64b and of m, m and m elements, and
+        /// tables as long as [`split_sizes`] says, for which the names are counted again. Tables of 15 bytes and one end for
+        /// each record are long enough for any names of up to 286,331,153 records, which are then not counted first.
+        pub fn split_into(file: &[u8], lent: PartsMut) -> Result<TableSizes, Refusal> {
+            let mut sizes = [0; 4];
+            // SAFETY: slices, of which those to write are borrowed by this call alone, and an array of this function's own.
+            answered(unsafe {
+                header::vmd_split_animation_into_parts(
+                    file.as_ptr(), file.len(), $(lend(lent.$part.as_mut_ptr()), lent.$part.len(),)* &mut sizes)
+            })?;
+            Ok(table_sizes(sizes))
+        }
+
+        /// The parts of a take, but for the model name.
+        pub fn split(take: &Take) -> Result<OwnedParts, Error> {
+            let (file, opening) = (take.file(), take.opening());
+            let mut parts = OwnedParts::default();
+            let mut sizes = [0; 4];
+            let [$($part),*] = lengths(opening, tables_to_lend(file, opening)?);
+            $(let $part = reserve(&mut parts.$part, $part)?;)*
+            // SAFETY: a slice, new memory for so many elements, of which the call reads no element that it has not written
+            // (it works in the columns of indices and frames), and an array of this function's own.
+            answered(unsafe {
+                header::vmd_split_animation_into_parts(
+                    file.as_ptr(), file.len(), $(lend(parts.$part.as_mut_ptr()), $part,)* &mut sizes)
+            })?;
+            let room = [$($part as u64),*];
+            let written = lengths(opening, table_sizes(sizes));
+            assert!(written.iter().zip(room).all(|(&written, room)| written <= room));
+            let [$($part),*] = written;
+            // SAFETY: there is room for so many elements, and the call has written them: a take has the opening of its own
+            // file, and `sizes` are those that the call gives for this file.
+            $(unsafe { parts.$part.set_len($part as usize) };)*
+            parts.bone_name_bytes.shrink_to_fit();
+            parts.bone_name_ends.shrink_to_fit();
+            parts.morph_name_bytes.shrink_to_fit();
+            parts.morph_name_ends.shrink_to_fit();
+            Ok(parts)
+        }
+    };
+}
+
+split_calls! {
+    bone_name_bytes
+    bone_name_ends
+    morph_name_bytes
+    morph_name_ends
+    camera_frames
+    light_frames
+    self_shadow_frames
+    property_frames
+    bone_name_indices
+    bone_frames
+    bone_translations_xyz
+    bone_rotations_xyzw
+    bone_interpolations
+    morph_name_indices
+    morph_frames
+    morph_weights
+}
+
 #[cfg(test)]
 mod tests {
     use super::*;
@@ -275,5 +423,27 @@ mod tests {
             let sentence = format!("refused {number}: the library's refusal {number}, which this crate has no name for");
             assert_eq!(Error::from(refusal).to_string(), sentence);
         }
+    }
+
+    #[test]
+    fn memory_that_is_not_there() {
+        assert_eq!(reserve(&mut Vec::<u8>::new(), 1 << 63), Err(Error::NoMemory(1 << 63)));
+        assert_eq!(reserve(&mut Vec::<f32>::new(), 1 << 61), Err(Error::NoMemory(1 << 63)));
+        assert_eq!(reserve(&mut Vec::<u32>::new(), u64::MAX), Err(Error::NoMemory(u64::MAX)));
+        assert_eq!(reserve(&mut Vec::<u32>::new(), 5), Ok(5));
+    }
+
+    /// Tables of 15 bytes for each record as long as a table may be so long, else as long as the file needs them.
+    #[test]
+    fn tables_that_are_lent() {
+        let mut file = b"Vocaloid Motion Data 0002".to_vec();
+        file.resize(54, 0);
+        let opening = |bones, morphs| Opening { counts: [bones, morphs, 0, 0, 0, 0], places: [0; 6], totals: [0; 2] };
+        let most = u32::MAX / 15;
+        let lent = tables_to_lend(&file, &opening(7, most)).unwrap();
+        let expected = table_sizes([7, 105, most.into(), u32::MAX.into()]);
+        assert_eq!(lent, expected);
+        assert_eq!(tables_to_lend(&file, &opening(most + 1, 0)), Ok(TableSizes::default()));
+        assert_eq!(tables_to_lend(&file, &opening(0, u32::MAX)), Ok(TableSizes::default()));
     }
 }

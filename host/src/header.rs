@@ -1,5 +1,18 @@
-//! The functions of include/vmd.h, declared for Rust. This is the only such declaration: the crate has it, and the comparison
-//! with the original (oracle/) takes this file. tests/interface.rs holds it to the header, parameter by parameter.
+//! The functions of include/vmd.h and its sizes of records, declared for Rust. This is the only such declaration: the crate
+//! has it, and the comparison with the original (oracle/) takes this file. tests/interface.rs holds it to the header,
+//! parameter by parameter.
+
+/// Bytes of each record in a file.
+#[allow(dead_code)] // each user needs some of them
+pub mod sizes {
+    pub const VMD_BONE_SIZE: u64 = 111;
+    pub const VMD_MORPH_SIZE: u64 = 23;
+    pub const VMD_CAMERA_SIZE: u64 = 61;
+    pub const VMD_LIGHT_SIZE: u64 = 28;
+    pub const VMD_SELF_SHADOW_SIZE: u64 = 9;
+    pub const VMD_PROPERTY_SIZE: u64 = 9; // without its IK states
+    pub const VMD_IK_STATE_SIZE: u64 = 21;
+}
 
 #[rustfmt::skip] // a slice's pointer and length stay on one line
 #[allow(dead_code)] // each user calls some of them
@@ -110,5 +123,26 @@ unsafe extern "C" {
         morph_weights: *const f32, morph_weights_len: usize,
         out: *mut u8, out_len: usize,
         written: *mut u64,
+    ) -> u32;
+    pub fn vmd_split_sizes(file: *const u8, file_len: usize, sizes: *mut [u64; 4]) -> u32;
+    pub fn vmd_split_animation_into_parts(
+        file: *const u8, file_len: usize,
+        bone_name_bytes: *mut u8, bone_name_bytes_len: usize,
+        bone_name_ends: *mut u32, bone_name_ends_len: usize,
+        morph_name_bytes: *mut u8, morph_name_bytes_len: usize,
+        morph_name_ends: *mut u32, morph_name_ends_len: usize,
+        camera_frames: *mut u8, camera_frames_len: usize,
+        light_frames: *mut u8, light_frames_len: usize,
+        self_shadow_frames: *mut u8, self_shadow_frames_len: usize,
+        property_frames: *mut u8, property_frames_len: usize,
+        bone_name_indices: *mut u32, bone_name_indices_len: usize,
+        bone_frames: *mut u32, bone_frames_len: usize,
+        bone_translations_xyz: *mut u32, bone_translations_xyz_len: usize,
+        bone_rotations_xyzw: *mut u32, bone_rotations_xyzw_len: usize,
+        bone_interpolations: *mut u8, bone_interpolations_len: usize,
+        morph_name_indices: *mut u32, morph_name_indices_len: usize,
+        morph_frames: *mut u32, morph_frames_len: usize,
+        morph_weights: *mut u32, morph_weights_len: usize,
+        sizes: *mut [u64; 4],
     ) -> u32;
 }

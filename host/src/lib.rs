@@ -1,8 +1,9 @@
-//! VMD takes, the motion files of MikuMikuDance: read, saved, joined and built from parts.
+//! VMD takes, the motion files of MikuMikuDance: read, saved, joined, built from parts and split into them.
 //!
 //! A thin layer over the C interface of the proved library (`include/vmd.h`). What the calls answer is its doing; this crate
 //! adds the types of Rust, memory for what is written, and [`save`], which puts a take in the place of another and loses
-//! neither on the way.
+//! neither on the way. The calls keep no state and can be made from any thread; [`Take::parts`], [`split_into`] and
+//! [`split_sizes`] take up to 256 KiB of its stack.
 //!
 //! ```
 //! // a take of one property frame that switches a leg's inverse kinematics off
@@ -23,6 +24,11 @@
 //! // twice the take: both property frames are there
 //! let twice = vmd::join(&file, &file)?;
 //! assert_eq!(vmd::Take::open(&twice)?.ik_states(), 2);
+//!
+//! // columns and records to edit, and the take that they make
+//! let parts = take.parts()?;
+//! assert_eq!(parts.property_frames, frames);
+//! assert_eq!(parts.build()?, vmd::export(&file)?);
 //! # Ok::<(), vmd::Error>(())
 //! ```
 #![deny(unsafe_code)]
@@ -41,8 +47,8 @@ mod shown;
 mod system;
 mod take;
 
-pub use c::{export_into, export_size, first_fault, join_into, join_size};
-pub use parts::{NameTable, Parts};
+pub use c::{export_into, export_size, first_fault, join_into, join_size, split_into, split_sizes};
+pub use parts::{NameTable, OwnedParts, Parts, PartsMut, TableSizes};
 pub use refusal::{Error, Refusal};
 pub use save::{FileId, SaveError, save, save_and_clear};
 pub use shown::shown;

@@ -1,11 +1,12 @@
 use crate::c;
 use crate::refusal::{Error, Refusal};
+use crate::take::Bits;
 
 /// What a take is built from. Parts that are left out are empty.
 ///
 /// A name table is bytes, and the end of each name in them ([`NameTable`] lays one out). Cameras, lights, self-shadows and
 /// properties are back-to-back records as a file has them. Bones and morphs are columns: a name's index in its table, a
-/// frame, and for a bone three, four and 64 values, for a morph one.
+/// frame, and for a bone three, four and 64 values, for a morph one. [`Take::parts`](crate::Take::parts) gives those of a take.
 ///
 /// ```
 /// let names = vmd::NameTable::new([&b"center"[..]]);
@@ -45,6 +46,144 @@ pub struct Parts<'a> {
     pub morph_name_indices: &'a [u32],
     pub morph_frames: &'a [u32],
     pub morph_weights: &'a [f32],
+}
+
+/// What [`Take::parts`](crate::Take::parts) gives: the parts of a take, each in memory of its own, to be changed and built
+/// again.
+///
+/// A name table has the distinct names of its records, in order of first appearance. Camera, light, self-shadow and property
+/// records are in canonical form.
+///
+/// ```
+/// # let names = vmd::NameTable::new([&b"smile"[..], b"blink"]);
+/// # let file = vmd::Parts {
+/// #     morph_name_bytes: &names.bytes,
+/// #     morph_name_ends: &names.ends,
+/// #     morph_name_indices: &[1, 0, 1],
+/// #     morph_frames: &[0, 30, 60],
+/// #     morph_weights: &[0.0, 0.5, 1.0],
+/// #     ..Default::default()
+/// # }
+/// # .build()?;
+/// let take = vmd::Take::open(&file)?; // morphs: blink at frame 0, smile at 30, blink at 60
+/// let mut parts = take.parts()?;
+/// assert_eq!((&parts.morph_name_bytes[..], &parts.morph_name_ends[..]), (&b"blinksmile"[..], &[5, 10][..]));
+/// assert_eq!(parts.morph_name_indices, [0, 1, 0]);
+/// assert_eq!(parts.build()?, vmd::export(&file)?);
+///
+/// parts.morph_frames.iter_mut().for_each(|frame| *frame += 15); // half a second later
+/// assert_eq!(vmd::Take::open(parts.build()?)?.largest_frame(), 75);
+/// # Ok::<(), vmd::Error>(())
+/// ```
+///
+/// Parts are equal where they have the same elements, floats by their bits.
+#[derive(Clone, Debug, Default)]
+#[allow(missing_docs)]
+pub struct OwnedParts {
+    pub model_name: Vec<u8>,
+    pub bone_name_bytes: Vec<u8>,
+    pub bone_name_ends: Vec<u32>,
+    pub morph_name_bytes: Vec<u8>,
+    pub morph_name_ends: Vec<u32>,
+    pub camera_frames: Vec<u8>,
+    pub light_frames: Vec<u8>,
+    pub self_shadow_frames: Vec<u8>,
+    pub property_frames: Vec<u8>,
+    pub bone_name_indices: Vec<u32>,
+    pub bone_frames: Vec<u32>,
+    pub bone_translations_xyz: Vec<f32>,
+    pub bone_rotations_xyzw: Vec<f32>,
+    pub bone_interpolations: Vec<u8>,
+    pub morph_name_indices: Vec<u32>,
+    pub morph_frames: Vec<u32>,
+    pub morph_weights: Vec<f32>,
+}
+
+/// Memory that [`split_into`](crate::split_into) is lent for the parts of a take. The model name is none of them.
+#[derive(Debug, Default)]
+#[allow(missing_docs)]
+pub struct PartsMut<'a> {
+    pub bone_name_bytes: &'a mut [u8],
+    pub bone_name_ends: &'a mut [u32],
+    pub morph_name_bytes: &'a mut [u8],
+    pub morph_name_ends: &'a mut [u32],
+    pub camera_frames: &'a mut [u8],
+    pub light_frames: &'a mut [u8],
+    pub self_shadow_frames: &'a mut [u8],
+    pub property_frames: &'a mut [u8],
+    pub bone_name_indices: &'a mut [u32],
+    pub bone_frames: &'a mut [u32],
+    pub bone_translations_xyz: &'a mut [f32],
+    pub bone_rotations_xyzw: &'a mut [f32],
+    pub bone_interpolations: &'a mut [u8],
+    pub morph_name_indices: &'a mut [u32],
+    pub morph_frames: &'a mut [u32],
+    pub morph_weights: &'a mut [f32],
+}
+
+/// How long the two name tables of a take are.
+#[derive(Clone, Copy, Debug, Default, PartialEq, Eq)]
+pub struct TableSizes {
+    /// The number of distinct bone names.
+    pub bone_names: u64,
+    /// How many bytes they have together.
+    pub bone_name_bytes: u64,
+    /// The number of distinct morph names.
+    pub morph_names: u64,
+    /// How many bytes they have together.
+    pub morph_name_bytes: u64,
+}
+
+/// What goes over all parts but the model name. A part that is left out is an error.
+macro_rules! over_all {
+    ($($part:ident)*) => {
+        impl OwnedParts {
+            /// The parts as the builder takes them.
+            pub fn as_parts(&self) -> Parts<'_> {
+                Parts { model_name: &self.model_name, $($part: &self.$part),* }
+            }
+
+            /// The memory of the parts, to be lent as it is.
+            pub fn as_parts_mut(&mut self) -> PartsMut<'_> {
+                PartsMut { $($part: &mut self.$part),* }
+            }
+        }
+
+        impl PartialEq for Parts<'_> {
+            fn eq(&self, other: &Self) -> bool {
+                let Self { model_name, $($part),* } = self;
+                $(same($part, other.$part) &&)* model_name == &other.model_name
+            }
+        }
+    };
+}
+
+impl Eq for Parts<'_> {}
+
+impl PartialEq for OwnedParts {
+    fn eq(&self, other: &Self) -> bool {
+        self.as_parts() == other.as_parts()
+    }
+}
+
+impl Eq for OwnedParts {}
+
+fn same<T: Bits + Copy>(a: &[T], b: &[T]) -> bool {
+    a.iter().map(|value| value.bits()).eq(b.iter().map(|value| value.bits()))
+}
+
+impl OwnedParts {
+    /// The canonical file of the parts.
+    pub fn build(&self) -> Result<Vec<u8>, Error> {
+        self.as_parts().build()
+    }
+}
+
+over_all! {
+    bone_name_bytes bone_name_ends morph_name_bytes morph_name_ends
+    camera_frames light_frames self_shadow_frames property_frames
+    bone_name_indices bone_frames bone_translations_xyz bone_rotations_xyzw bone_interpolations
+    morph_name_indices morph_frames morph_weights
 }
 
 impl Parts<'_> {

@@ -75,6 +75,8 @@ refusals! {
     NameIndex = 12, "a name index is not below the length of its table";
     /// An output shorter than the file to be written. The calls that give a `Vec` lend enough.
     OutputTooShort = 13, "the output is shorter than the file to be written";
+    /// A buffer for the parts of a take is too short, or a name table passes 4,294,967,295 bytes.
+    PartsDoNotFit = 14, "a buffer for the parts is too short, or a name table passes 4,294,967,295 bytes";
 }
 
 impl std::error::Error for Refusal {}

@@ -1,6 +1,7 @@
 use std::borrow::Cow;
 
 use crate::c;
+use crate::parts::OwnedParts;
 use crate::refusal::{Error, Refusal};
 
 /// An accepted take: the file's bytes, owned or borrowed, and what opening found in them.
@@ -104,7 +105,7 @@ pub struct IkState<'t> {
 }
 
 /// A field as it is compared: a float is its bits.
-trait Bits {
+pub(crate) trait Bits {
     type Of: Eq;
     fn bits(self) -> Self::Of;
 }
@@ -113,6 +114,20 @@ impl Bits for f32 {
     type Of = u32;
     fn bits(self) -> u32 {
         self.to_bits()
+    }
+}
+
+impl Bits for u8 {
+    type Of = u8;
+    fn bits(self) -> u8 {
+        self
+    }
+}
+
+impl Bits for u32 {
+    type Of = u32;
+    fn bits(self) -> u32 {
+        self
     }
 }
 
@@ -190,6 +205,11 @@ impl<'a> Take<'a> {
     /// The file's bytes.
     pub fn file(&self) -> &[u8] {
         &self.file
+    }
+
+    /// What opening this very file gave.
+    pub(crate) fn opening(&self) -> &c::Opening {
+        &self.opening
     }
 
     /// The number of bone frames.
@@ -328,6 +348,15 @@ impl<'a> Take<'a> {
     pub fn ik_states_of(&self, i: usize) -> impl ExactSizeIterator<Item = IkState<'_>> + DoubleEndedIterator {
         let count = self.property(i).map_or(0, |property| property.ik_states as usize);
         records(count, move |j| self.ik_state(i, j))
+    }
+
+    /// What the take would be built from. Where the builder takes these parts, the file it gives is the take's
+    /// [`export`]; it does not take names that are not good Shift_JIS, floats that are not finite, and self-shadow modes
+    /// above 2, which a file may have.
+    ///
+    /// Refused with [`PartsDoNotFit`](Refusal::PartsDoNotFit) where the names of a table pass 4,294,967,295 bytes.
+    pub fn parts(&self) -> Result<OwnedParts, Error> {
+        Ok(OwnedParts { model_name: self.model_name().to_vec(), ..c::split(self)? })
     }
 }
 

@@ -1,4 +1,5 @@
-//! The C header, the Rust and the Rattle say the same: the refusals and their numbers, and the functions' parameters.
+//! The C header, the Rust and the Rattle say the same: the refusals and their numbers, the records' sizes, and the
+//! functions' parameters.
 use std::collections::BTreeMap;
 use std::fs;
 use std::path::{Path, PathBuf};
@@ -113,6 +114,21 @@ fn refusals_have_the_same_names_and_numbers() {
         let others: Vec<_> = rattle.iter().filter(|(other, name)| *other != number && says(name)).collect();
         assert!(others.is_empty(), "{name} of the header could be another of the Rattle: {others:?}");
     }
+}
+
+// ---- sizes
+
+/// Every size of a record has the same name and number in the header and in header.rs.
+#[test]
+fn records_have_the_sizes_of_the_header() {
+    let header = header();
+    let named = header.split(['{', '}', ',']).filter_map(|entry| entry.split_once('='));
+    let sizes = named.map(|(name, size)| (name.trim(), size.trim())).filter(|(name, _)| name.ends_with("_SIZE"));
+    let constants = include_str!("../src/header.rs").lines().filter_map(|line| line.trim().strip_prefix("pub const "));
+    let declared = constants.map(|constant| constant.split(';').next().unwrap().split_once(": u64 = ").unwrap());
+    let declared: Vec<_> = declared.collect();
+    assert_eq!(declared, sizes.collect::<Vec<_>>());
+    assert_eq!(declared.len(), 7);
 }
 
 // ---- functions

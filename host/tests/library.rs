@@ -2,10 +2,13 @@
 mod common;
 
 use std::array;
+use std::fs;
 use std::ops::Range;
+use std::path::Path;
+use std::thread;
 
 use common::{bones, counts, start};
-use vmd::{Error, NameTable, Parts, Refusal, Take};
+use vmd::{Error, NameTable, OwnedParts, Parts, PartsMut, Refusal, TableSizes, Take};
 
 /// Records as a file has them, with a value of its own in every field.
 struct Records {
@@ -350,6 +353,305 @@ fn parts_that_are_refused() {
     assert_eq!(refused(Parts { bone_name_indices: &[1], ..good }), 12);
     assert_eq!(vmd::first_fault(b"\x83\x41\xA0"), 2);
     assert_eq!(vmd::first_fault(b"arm"), 3);
+}
+
+// ---- parts out of a take
+
+/// The examples, and takes that the builder takes.
+#[test]
+fn parts_of_a_take_build_its_export() {
+    let examples = Path::new(env!("CARGO_MANIFEST_DIR")).join("../examples");
+    let examples = fs::read_dir(examples).unwrap().map(|entry| fs::read(entry.unwrap().path()).unwrap());
+    let mut files: Vec<_> = examples.collect();
+    assert!(files.len() > 1);
+    files.extend([counts(&[0]), counts(&[0; 6]), morphs(&[b"smile", b"", b"smile\0?"])]);
+    files.push(vmd::join(&files[0], &files[1]).unwrap());
+    for file in &files {
+        let take = Take::open(file).unwrap();
+        let parts = take.parts().unwrap();
+        let exported = vmd::export(file).unwrap();
+        assert_eq!(parts.build().unwrap(), exported);
+        assert_eq!(parts.as_parts().build().unwrap(), exported);
+        assert_eq!(Take::open(&exported).unwrap().parts().unwrap(), parts);
+        assert_eq!(sizes_of(&parts), vmd::split_sizes(file).unwrap());
+        assert_eq!(parts.model_name, take.model_name());
+    }
+}
+
+fn sizes_of(parts: &OwnedParts) -> TableSizes {
+    let [bone_names, bone_name_bytes, morph_names, morph_name_bytes] =
+        [parts.bone_name_ends.len(), parts.bone_name_bytes.len(), parts.morph_name_ends.len(), parts.morph_name_bytes.len()]
+            .map(|len| len as u64);
+    TableSizes { bone_names, bone_name_bytes, morph_names, morph_name_bytes }
+}
+
+/// Bits of a column: its NaNs keep their payloads.
+fn column_bits(column: &[f32]) -> Vec<u32> {
+    column.iter().map(|value| value.to_bits()).collect()
+}
+
+#[test]
+fn every_part_of_a_take() {
+    let file = six_sections();
+    let parts = Take::open(&file).unwrap().parts().unwrap();
+    let interpolation: Vec<u8> = (100..164).collect();
+    assert_eq!(parts.model_name, b"model");
+    assert_eq!((&parts.bone_name_bytes[..], &parts.bone_name_ends[..]), (&b"armfifteen letters"[..], &[3, 18][..]));
+    assert_eq!((&parts.morph_name_bytes[..], &parts.morph_name_ends[..]), (&b"smile"[..], &[5][..]));
+    assert_eq!((&parts.bone_name_indices[..], &parts.bone_frames[..]), (&[0, 1][..], &[7, 8][..]));
+    assert_eq!(column_bits(&parts.bone_translations_xyz), [0x7FC00001, 0xFF800002, 3, 11, 12, 13]);
+    assert_eq!(column_bits(&parts.bone_rotations_xyzw), [4, 5, 6, 0x80000000, 14, 15, 16, 17]);
+    let curves = [&interpolation[..], &interpolation[..32], &interpolation[..32]].concat();
+    assert_eq!(parts.bone_interpolations, curves);
+    assert_eq!((&parts.morph_name_indices[..], &parts.morph_frames[..]), (&[0][..], &[9][..]));
+    assert_eq!(column_bits(&parts.morph_weights), [21]);
+
+    // canonical records: perspective byte 2 is written 1, visible 9 and enabled 7 are too
+    let exported = vmd::export(&file).unwrap();
+    assert_eq!(parts.camera_frames, exported[307..429]);
+    assert_eq!((parts.camera_frames[60], parts.camera_frames[121]), (0, 1));
+    assert_eq!(parts.light_frames, exported[433..461]);
+    assert_eq!(parts.self_shadow_frames, exported[465..474]);
+    assert_eq!(parts.property_frames, exported[478..]);
+    assert_eq!([4, 13, 38, 59].map(|at| parts.property_frames[at]), [0, 1, 0, 1]);
+    assert_eq!(parts.property_frames.len(), 2 * 9 + 2 * 21);
+
+    // the builder turns the NaNs down, and with numbers in their place builds the rest
+    assert_eq!(parts.build(), Err(Refusal::NotFinite.into()));
+    let mut finite = parts.clone();
+    finite.light_frames.clear();
+    finite.self_shadow_frames.clear();
+    finite.bone_translations_xyz[..2].fill(0.5);
+    assert_eq!(Take::open(finite.build().unwrap()).unwrap().parts().unwrap(), finite);
+    assert_ne!(finite, parts);
+}
+
+/// A take of morphs with these bytes at the front of their names' fields.
+fn morphs(names: &[&[u8]]) -> Vec<u8> {
+    let mut file = counts(&[0, names.len() as u32]);
+    for (i, name) in (0u32..).zip(names) {
+        file.extend(*name);
+        file.resize(file.len() + 15 - name.len(), 0);
+        file.extend(i.to_le_bytes());
+        file.extend(0.5f32.to_le_bytes());
+    }
+    file
+}
+
+/// The same names, of bones.
+fn named_bones(names: &[&[u8]]) -> Vec<u8> {
+    let mut file = counts(&[names.len() as u32]);
+    for name in names {
+        file.extend(*name);
+        file.resize(file.len() + 111 - name.len(), 0);
+    }
+    file
+}
+
+/// Distinct by the bytes before the first zero, in order of first appearance.
+#[test]
+fn name_tables_of_a_take() {
+    let expect = |names: &[&[u8]], distinct: &[&[u8]], indices: &[u32]| {
+        let expected = NameTable::new(distinct.iter().copied());
+        let parts = Take::open(morphs(names)).unwrap().parts().unwrap();
+        assert_eq!((&parts.morph_name_bytes, &parts.morph_name_ends), (&expected.bytes, &expected.ends), "{names:?}");
+        assert_eq!(parts.morph_name_indices, indices);
+        assert!(parts.bone_name_ends.is_empty() && parts.bone_name_indices.is_empty());
+        let parts = Take::open(named_bones(names)).unwrap().parts().unwrap();
+        assert_eq!((&parts.bone_name_bytes, &parts.bone_name_ends), (&expected.bytes, &expected.ends), "{names:?}");
+        assert_eq!(parts.bone_name_indices, indices);
+        assert!(parts.morph_name_ends.is_empty() && parts.morph_name_indices.is_empty());
+    };
+    expect(&[], &[], &[]);
+    expect(&[b""], &[b""], &[0]);
+    expect(&[b"", b"a", b"", b"\0a"], &[b"", b"a"], &[0, 1, 0, 0]);
+    expect(&[b"z", b"a", b"z", b"m", b"a"], &[b"z", b"a", b"m"], &[0, 1, 0, 2, 1]);
+    expect(&[b"a\0b", b"a", b"a\0\0c", b"ab"], &[b"a", b"ab"], &[0, 0, 0, 1]);
+    let [full, cut, other]: [&[u8]; 3] = [b"fifteen letters", b"fifteen letter", b"fifteen letterS"];
+    expect(&[full, cut, other, full], &[full, cut, other], &[0, 1, 2, 0]);
+    let distinct: [&[u8]; 5] = [b"\xFF\x80", b"\x0A", b"\xFF", b"a\x0Ab", b"a"];
+    expect(&distinct, &distinct, &[0, 1, 2, 3, 4]);
+}
+
+/// Names in no order, none of them twice.
+fn different_names(n: u32) -> Vec<Vec<u8>> {
+    (0..n).map(|i| format!("{:x}", i.wrapping_mul(2654435761) >> 8).into_bytes()).collect()
+}
+
+/// Bones or morphs with these names, so many times over: in tables that are long enough for any names, and in tables that are
+/// just long enough, for which they are counted.
+fn try_different_names(fields: &[Vec<u8>], times: usize, of_bones: bool) {
+    let names: Vec<&[u8]> = fields.iter().map(Vec::as_slice).collect();
+    let expected = NameTable::new(names.iter().copied());
+    let (number, bytes) = (fields.len() as u64, fields.iter().map(|name| name.len() as u64).sum());
+    let records = names.repeat(times);
+    let file = if of_bones { named_bones(&records) } else { morphs(&records) };
+    let parts = Take::open(&file).unwrap().parts().unwrap();
+    let (table, ends, indices, sizes) = if of_bones {
+        let sizes = TableSizes { bone_names: number, bone_name_bytes: bytes, ..Default::default() };
+        (&parts.bone_name_bytes, &parts.bone_name_ends, &parts.bone_name_indices, sizes)
+    } else {
+        let sizes = TableSizes { morph_names: number, morph_name_bytes: bytes, ..Default::default() };
+        (&parts.morph_name_bytes, &parts.morph_name_ends, &parts.morph_name_indices, sizes)
+    };
+    assert!(table == &expected.bytes && ends == &expected.ends);
+    assert!(indices == &(0..fields.len() as u32).collect::<Vec<_>>().repeat(times));
+    assert_eq!(sizes_of(&parts), sizes);
+    in_exact_tables(&file, &parts);
+}
+
+#[test]
+fn thousands_of_names_that_come_twice() {
+    for n in [3000, 20_000] {
+        try_different_names(&different_names(n), 2, false);
+        try_different_names(&different_names(n), 2, true);
+    }
+}
+
+/// More names than one pass counts, in no order, rising and falling. A pass has from 16,384 to 32,767 of them, and just 16,384
+/// where they rise.
+#[test]
+fn names_that_all_differ() {
+    let mut names = different_names(70_000);
+    try_different_names(&names, 1, false);
+    names.sort();
+    names.truncate(40_000);
+    try_different_names(&names, 1, false);
+    names.truncate(33_000);
+    names.reverse();
+    try_different_names(&names, 1, true);
+}
+
+fn in_exact_tables(file: &[u8], parts: &OwnedParts) {
+    let mut lent = unwritten(parts, 0);
+    assert_eq!(vmd::split_sizes(file), Ok(sizes_of(parts)));
+    assert_eq!(vmd::split_into(file, lent.as_parts_mut()), Ok(sizes_of(parts)));
+    assert!(lent == *parts);
+}
+
+/// The two calls take up to 256 KiB of stack, says include/vmd.h; a thread needs some of its own.
+#[test]
+fn parts_in_a_thread_of_little_stack() {
+    let fields: Vec<_> = (0..5000u32).map(|i| (i % 4000).to_string().into_bytes()).collect();
+    let names: Vec<&[u8]> = fields.iter().map(Vec::as_slice).collect();
+    for file in [morphs(&names), named_bones(&names), six_sections()] {
+        let thread = thread::Builder::new().stack_size((256 + 64) << 10);
+        let calls = move || in_exact_tables(&file, &Take::open(&file).unwrap().parts().unwrap());
+        thread.spawn(calls).unwrap().join().unwrap();
+    }
+}
+
+/// A section that is missing, or was emptied, has no parts; the sections before it have theirs.
+#[test]
+fn parts_of_emptied_sections() {
+    let mut file = bones(2, 1);
+    file.truncate(54 + 222);
+    assert_eq!(Take::open(&file).unwrap().parts().unwrap(), Take::open(bones(2, 1)).unwrap().parts().unwrap());
+    file.extend([0; 4]); // morphs
+    file.extend(9u32.to_le_bytes()); // cameras that are not there
+    file.extend([1; 60]);
+    let parts = Take::open(&file).unwrap().parts().unwrap();
+    assert_eq!((parts.bone_frames.len(), parts.camera_frames.len(), parts.property_frames.len()), (2, 0, 0));
+    assert_eq!(parts.bone_name_ends, [6]);
+    assert_eq!(Take::open(counts(&[0, 0, 1])).unwrap().parts().unwrap(), OwnedParts::default());
+}
+
+/// What lent memory holds before a call.
+trait Unwritten {
+    const UNWRITTEN: Self;
+}
+
+impl Unwritten for u8 {
+    const UNWRITTEN: u8 = 0xA5;
+}
+
+impl Unwritten for u32 {
+    const UNWRITTEN: u32 = 0xA5A5_A5A5;
+}
+
+impl Unwritten for f32 {
+    const UNWRITTEN: f32 = f32::from_bits(0x7FA5_A5A5); // a NaN, as no take here has it
+}
+
+macro_rules! over_all {
+    ($($part:ident)*) => {
+        /// Memory for these parts, each longer by so many elements.
+        fn unwritten(parts: &OwnedParts, more: usize) -> OwnedParts {
+            OwnedParts {
+                model_name: parts.model_name.clone(),
+                $($part: vec![Unwritten::UNWRITTEN; parts.$part.len() + more]),*
+            }
+        }
+
+        /// These parts, and so many elements after each that were not written.
+        fn followed(parts: &OwnedParts, more: usize) -> OwnedParts {
+            let mut parts = parts.clone();
+            $(parts.$part.resize(parts.$part.len() + more, Unwritten::UNWRITTEN);)*
+            parts
+        }
+
+        /// Memory that is longer, but for one part that is too short by an element: each of the sixteen.
+        fn too_short(parts: &OwnedParts, more: usize) -> [OwnedParts; 16] {
+            [$({
+                let mut short = unwritten(parts, more);
+                short.$part.truncate(parts.$part.len() - 1);
+                short
+            }),*]
+        }
+    };
+}
+
+over_all! {
+    bone_name_bytes bone_name_ends morph_name_bytes morph_name_ends
+    camera_frames light_frames self_shadow_frames property_frames
+    bone_name_indices bone_frames bone_translations_xyz bone_rotations_xyzw bone_interpolations
+    morph_name_indices morph_frames morph_weights
+}
+
+#[test]
+fn parts_written_to_lent_memory() {
+    let file = six_sections();
+    let parts = Take::open(&file).unwrap().parts().unwrap();
+    for more in [0, 1, 40] {
+        let mut lent = unwritten(&parts, more);
+        assert_eq!(vmd::split_into(&file, lent.as_parts_mut()), Ok(sizes_of(&parts)));
+        assert_eq!(lent, followed(&parts, more));
+    }
+    let refused = |file: &[u8], lent: &OwnedParts| {
+        let mut after = lent.clone();
+        let answer = vmd::split_into(file, after.as_parts_mut());
+        assert_eq!(&after, lent, "a refused call has written");
+        answer.unwrap_err().number()
+    };
+    for lent in too_short(&parts, 40) {
+        assert_eq!(refused(&file, &lent), 14);
+        assert_eq!(refused(&file[..file.len() - 1], &lent), 1);
+        assert_eq!(refused(&[0x41; 99], &lent), 2);
+    }
+    assert_eq!(refused(&start(), &unwritten(&parts, 0)), 1);
+    assert_eq!(vmd::split_sizes(&file), Ok(sizes_of(&parts)));
+    assert_eq!(vmd::split_sizes(&start()), Err(Refusal::EndsEarly));
+    assert_eq!(vmd::split_sizes(&[0x41; 30]), Err(Refusal::MagicDiffers));
+    assert_eq!(vmd::split_into(&counts(&[0]), PartsMut::default()), Ok(TableSizes::default()));
+}
+
+/// Parts tell the two zeros apart, and one NaN from another, in every column; a NaN is equal to itself.
+#[test]
+fn parts_are_equal_by_the_bits_of_their_floats() {
+    let parts = |bits: u32| {
+        let column = vec![f32::from_bits(bits)];
+        [
+            OwnedParts { bone_translations_xyz: column.clone(), ..Default::default() },
+            OwnedParts { bone_rotations_xyzw: column.clone(), ..Default::default() },
+            OwnedParts { morph_weights: column, ..Default::default() },
+        ]
+    };
+    let all: Vec<_> = [0, 0x8000_0000, 0x7FC0_0000, 0x7FC0_0001].into_iter().flat_map(parts).collect();
+    for (i, a) in all.iter().enumerate() {
+        for (j, b) in all.iter().enumerate() {
+            assert_eq!(a == b, i == j);
+        }
+    }
 }
 
 #[test]

@@ -183,13 +183,6 @@ static const char *const bone_names[MOST_NAMES] = {
 static const char *const morph_names[3] = {"", "smile", "\xFC\x7E\x81\x80"};
 static const uint32_t bone_indices[N_BONES] = {1, 0, 2, 0}, morph_indices[N_MORPHS] = {2, 0, 1};
 
-static void make_finite(uint32_t *floats, size_t n)
-{
-    size_t k;
-    for (k = 0; k < n; k++)
-        floats[k] &= ~(uint32_t)0x00800000;
-}
-
 static struct take good_take(void)
 {
     struct take t = distinct_take(0, N_BONES, N_MORPHS, N_CAMERAS, N_LIGHTS, N_SELF_SHADOWS, 3);

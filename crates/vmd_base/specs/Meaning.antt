@@ -1,9 +1,9 @@
 -- What the types of the code mean in the terms of the format, by cases. Definitions only.
-use Rattle.vmd_format.specs.Refusal.{Refusal, file-ends-early, magic-differs, scratch-too-short, outside, parts-not-whole, name-unfit, name-not-good, not-finite, self-shadow-unfit, columns-disagree, count-too-large, name-index-too-large, output-too-short}
+use Rattle.vmd_format.specs.Refusal.{Refusal, file-ends-early, magic-differs, scratch-too-short, outside, parts-not-whole, name-unfit, name-not-good, not-finite, self-shadow-unfit, columns-disagree, count-too-large, name-index-too-large, output-too-short, parts-do-not-fit}
 use Rattle.vmd_format.specs.Read.{Manner, lenient}
 use Rattle.vmd_format.specs.Opening.{Extent}
 use Rattle.vmd_base.specs.declared.VmdRefusal.{VmdRefusal}
-use Rattle.vmd_base.specs.declared.VmdRefusal.the-variants.{FileEndsEarly, MagicDiffers, ScratchTooShort, Outside, PartsNotWhole, NameUnfit, NameNotGood, NotFinite, SelfShadowUnfit, ColumnsDisagree, CountTooLarge, NameIndexTooLarge, OutputTooShort}
+use Rattle.vmd_base.specs.declared.VmdRefusal.the-variants.{FileEndsEarly, MagicDiffers, ScratchTooShort, Outside, PartsNotWhole, NameUnfit, NameNotGood, NotFinite, SelfShadowUnfit, ColumnsDisagree, CountTooLarge, NameIndexTooLarge, OutputTooShort, PartsDoNotFit}
 use Rattle.vmd_base.specs.declared.VmdManner.{VmdManner}
 use Rattle.vmd_base.specs.declared.VmdManner.the-variants.{Lenient}
 use Rattle.vmd_base.specs.declared.VmdSection.{VmdSection}
@@ -22,6 +22,7 @@ refusal-of ColumnsDisagree = columns-disagree
 refusal-of CountTooLarge = count-too-large
 refusal-of NameIndexTooLarge = name-index-too-large
 refusal-of OutputTooShort = output-too-short
+refusal-of PartsDoNotFit = parts-do-not-fit
 
 abbrev pub manner-of : VmdManner → Manner
 manner-of Lenient = lenient

@@ -36,6 +36,7 @@ pub enum VmdRefusal {
     CountTooLarge,
     NameIndexTooLarge,
     OutputTooShort,
+    PartsDoNotFit,
 }
 
 impl VmdRefusal {
@@ -56,6 +57,7 @@ impl VmdRefusal {
             VmdRefusal::CountTooLarge => 11,
             VmdRefusal::NameIndexTooLarge => 12,
             VmdRefusal::OutputTooShort => 13,
+            VmdRefusal::PartsDoNotFit => 14,
         }
     }
 }

@@ -134,6 +134,12 @@ pub drop-run : (l : List ℕ) (at n k : ℕ) → drop k (run l at n) ≡ run l (
 unfolding run
 drop-run l at n k = rw (drop-take k n (drop at l), drop-drop)
 
+-- two copies, the second where the first ends, are one copy of both
+pub copied-on : {x o : List ℕ} (s : List ℕ) (at : ℕ) (l : List ℕ) (to n m : ℕ) → at + n ≤ length s → to + n ≤ length l
+    → x ≡ splice l to (run s at n) → o ≡ splice x (to + n) (run s (at + n) m) → o ≡ splice l to (run s at (n + m))
+copied-on s at l to n m h r e f =
+    f ∙ rw e (splice-append-at l to (run s at n) (run s (at + n) m) n (length-run s at n h) r ∙ ap (splice l to) (sym (run-add s at n m)))
+
 -- the list of `&l[at..at + n]`
 pub range-part : (l : List ℕ) (at n : ℕ) → take (at + n - at) (drop at l) ≡ run l at n
 unfolding run

@@ -105,6 +105,26 @@ pub fn copy_word(src: &[u8], at: usize, out: &mut [u8], to: usize)
     put_word(out, to, x);
 }
 
+// Copies four words.
+fn copy_four_words(src: &[u8], at: usize, out: &mut [u8], to: usize)
+    requires { ⌜ (at + 32 ≤ length (now src)) × (to + 32 ≤ length (now out)) ⌝ }
+    ensures { λ _. ⌜ now (out .exit) ≡ splice (now (out .entry)) to (run (now (src .entry)) at 32) ⌝ }
+{
+    copy_word(src, at, out, to);
+    copy_word(src, at + 8, out, to + 8);
+    copy_word(src, at + 16, out, to + 16);
+    copy_word(src, at + 24, out, to + 24);
+}
+
+// Copies the 64 interpolation bytes of a bone by words: the compiler leaves a loop over so few bytes as single bytes.
+pub fn copy_interpolation(src: &[u8], at: usize, out: &mut [u8], to: usize)
+    requires { ⌜ (at + 64 ≤ length (now src)) × (to + 64 ≤ length (now out)) ⌝ }
+    ensures { λ _. ⌜ now (out .exit) ≡ splice (now (out .entry)) to (run (now (src .entry)) at 64) ⌝ }
+{
+    copy_four_words(src, at, out, to);
+    copy_four_words(src, at + 32, out, to + 32);
+}
+
 // Whether the first n bytes of a and of b are the same.
 pub fn same_start(a: &[u8], b: &[u8], n: usize) -> bool
     requires { ⌜ (n ≤ length (now a)) × (n ≤ length (now b)) ⌝ }
@@ -172,14 +192,14 @@ fn mask(m: u64, live: bool) -> u64
 }
 
 // The eight bytes x of a name field in canonical form. live: the name has not ended before them.
-fn canonical_word(x: u64, live: bool) -> u64
+pub fn canonical_word(x: u64, live: bool) -> u64
     ensures { λ r. ⌜ digits 8 r ≡ canonical live (digits 8 x) ⌝ }
 {
     x & mask(zeros_in(x), live)
 }
 
 // Whether the name has not ended after the eight bytes x.
-fn live_after_word(live: bool, x: u64) -> bool
+pub fn live_after_word(live: bool, x: u64) -> bool
     ensures { λ r. ⌜ r ≡ (live && no-zero (digits 8 x)) ⌝ }
 {
     let no_zero = zeros_in(x) == 0;

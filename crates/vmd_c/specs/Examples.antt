@@ -6,14 +6,17 @@ use mathlib.Core.List.{List, [], _∷_, _++_}
 use lib.ListN.{replicate}
 use lib.IntN.{pos}
 use lib.Ieee.{nan, fin, ofBits}
-use Rattle.vmd_format.specs.Refusal.{file-ends-early, outside, output-too-short}
+use Rattle.vmd_format.specs.Refusal.{file-ends-early, outside, output-too-short, parts-do-not-fit}
 use Rattle.vmd_format.specs.Answer.{declined, given}
 use Rattle.vmd_format.specs.Records.{Light}
 use Rattle.vmd_format.specs.Opening.{Scan, Opening}
 use Rattle.vmd_format.specs.Computed.{computed}
 use Rattle.vmd_places.specs.Meaning.{ik-place}
 use Rattle.vmd_places.specs.Parts.{file-part, part-in}
-use Rattle.vmd_c.specs.Meaning.{status, slot-after, counts-of, places-of, totals-of, extent-at, scan-at, bone-words, morph-words, camera-words, light-values, light-words, self-shadow-words, property-words, part-words, joined-words, file-of}
+use Rattle.vmd_c.specs.Meaning.{status, slot-after, counts-of, places-of, totals-of, extent-at, scan-at, bone-words, morph-words, camera-words, light-values, light-words, self-shadow-words, property-words, part-words, joined-words, size-words, file-of}
+use Rattle.vmd_base.specs.declared.VmdRefusal.the-variants.{PartsDoNotFit}
+use Rattle.vmd_split.specs.Meaning.{split-is}
+use Rattle.vmd_split.specs.declared.VmdSplit.the-variants.{Refused, Tables}
 
 -- 0, or the number; the new value, or the old
 pub returned :
@@ -103,3 +106,13 @@ pub parts :
     × (file-of (1 ∷ []) (2 ∷ []) 0 ≡ 1 ∷ []) × (file-of (1 ∷ []) (2 ∷ []) 1 ≡ 2 ∷ [])
 unfolding computed file-part part-in ik-place joined-words file-of
 parts = (refl, refl, refl, refl, refl, refl, refl, refl, refl, refl, refl)
+
+-- ---- the sizes of two name tables
+
+pub table-sizes :
+    (split-is (Tables (record { «bone_names» = 1; «bone_name_bytes» = 2; «morph_names» = 3; «morph_name_bytes» = 4 }))
+    ≡ given (record { bone-names = 1; bone-name-bytes = 2; morph-names = 3; morph-name-bytes = 4 }))
+    × (split-is (Refused PartsDoNotFit) ≡ declined parts-do-not-fit)
+    × (size-words (record { bone-names = 1; bone-name-bytes = 2; morph-names = 3; morph-name-bytes = 4 }) ≡ 1 ∷ 2 ∷ 3 ∷ 4 ∷ [])
+unfolding size-words
+table-sizes = (refl, refl, refl)

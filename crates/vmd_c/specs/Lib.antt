@@ -3,3 +3,4 @@ pub mod PartsOfFile
 pub mod Own
 pub mod Examples
 pub mod ReadBack
+pub mod Rebuilt

@@ -12,6 +12,7 @@ use Rattle.vmd_format.specs.Records.{Bone, Morph, Camera, Light, SelfShadow}
 use Rattle.vmd_format.specs.Opening.{Extent, Scan, Opening}
 use Rattle.vmd_format.specs.Fetch.{PropertyHead}
 use Rattle.vmd_base.specs.declared.VmdPart.{VmdPart}
+use Rattle.vmd_split.specs.Split.{TableSizes}
 
 -- what a call returns: 0, or the number of the refusal
 unfoldable pub status : {A : Type 0} → Answer A → ℕ
@@ -97,6 +98,10 @@ unfoldable pub joined-words : List ℕ → List ℕ → List ℕ
 joined-words [] [] = 0 ∷ 0 ∷ 0 ∷ []
 joined-words [] (b ∷ n) = 1 ∷ 30 ∷ length (b ∷ n) ∷ []
 joined-words (a ∷ m) n = 0 ∷ 30 ∷ length (a ∷ m) ∷ []
+
+-- the sizes of two name tables
+unfoldable pub size-words : TableSizes → List ℕ
+size-words t = t .bone-names ∷ t .bone-name-bytes ∷ t .morph-names ∷ t .morph-name-bytes ∷ []
 
 -- the one of two files with that index
 unfoldable pub file-of : List ℕ → List ℕ → ℕ → List ℕ

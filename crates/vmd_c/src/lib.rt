@@ -14,6 +14,7 @@ use vmd_reader::VmdOpening;
 use vmd_reader::VmdPropertyAnswer;
 use vmd_reader::VmdSelfShadowAnswer;
 use vmd_scan::VmdSections;
+use vmd_split::VmdSplit;
 ghost use mathlib.Core.Path.{_≡_};
 ghost use Prim.Native.Nat.{_*_};
 ghost use lib.ListN.{length};
@@ -31,7 +32,9 @@ ghost use Rattle.vmd_reader.specs.Meaning.{opening-is};
 ghost use Rattle.vmd_output.specs.Meaning.{written-answer};
 ghost use Rattle.vmd_export.specs.Saved.{exported-answer, exported-output, joined-answer, joined-output, export-size, join-size};
 ghost use Rattle.vmd_checks.specs.Meaning.{parts-of};
-ghost use Rattle.vmd_c.specs.Meaning.{status, slot-after, counts-of, places-of, totals-of, scan-at, bone-words, morph-words, camera-words, light-values, light-words, self-shadow-words, property-words, part-words, joined-words};
+ghost use Rattle.vmd_c.specs.Meaning.{status, slot-after, counts-of, places-of, totals-of, scan-at, bone-words, morph-words, camera-words, light-values, light-words, self-shadow-words, property-words, part-words, joined-words, size-words};
+ghost use Rattle.vmd_split.specs.Split.{split, split-answer, split-sizes, parts-left, buffers};
+ghost use Rattle.vmd_split.specs.Meaning.{split-is};
 
 fn wide(b: u8) -> u32
     ensures { λ r. ⌜ r ≡ b ⌝ }
@@ -608,4 +611,87 @@ pub extern "C" fn vmd_build_animation_from_parts(
         out,
     );
     report_written(answer, written)
+}
+
+// ---- parts out of a take
+
+// The status of a split, with its numbers in the slot.
+fn report_sizes(answer: VmdSplit, sizes: &mut [u64; 4]) -> u32
+    ensures { λ r. ⌜ (r ≡ status (split-is answer)) × (now (sizes .exit) ≡ slot-after (now (sizes .entry)) size-words (split-is answer)) ⌝ }
+{
+    match answer {
+        VmdSplit::Refused(k) => k.number(),
+        VmdSplit::Tables(t) => {
+            *sizes = [
+                t.bone_names,
+                t.bone_name_bytes,
+                t.morph_names,
+                t.morph_name_bytes,
+            ];
+            0
+        }
+    }
+}
+
+#[no_mangle]
+pub extern "C" fn vmd_split_sizes(file: &[u8], sizes: &mut [u64; 4]) -> u32
+    ensures { λ r. ⌜ (let answer = split-sizes lenient (now (file .entry)) in
+        (r ≡ status answer) × (now (sizes .exit) ≡ slot-after (now (sizes .entry)) size-words answer)) ⌝ }
+{
+    report_sizes(vmd_split::split_vmd_sizes(file), sizes)
+}
+
+#[no_mangle]
+pub extern "C" fn vmd_split_animation_into_parts(
+    file: &[u8],
+    bone_name_bytes: &mut [u8],
+    bone_name_ends: &mut [u32],
+    morph_name_bytes: &mut [u8],
+    morph_name_ends: &mut [u32],
+    camera_frames: &mut [u8],
+    light_frames: &mut [u8],
+    self_shadow_frames: &mut [u8],
+    property_frames: &mut [u8],
+    bone_name_indices: &mut [u32],
+    bone_frames: &mut [u32],
+    bone_translations_xyz: &mut [u32],
+    bone_rotations_xyzw: &mut [u32],
+    bone_interpolations: &mut [u8],
+    morph_name_indices: &mut [u32],
+    morph_frames: &mut [u32],
+    morph_weights: &mut [u32],
+    sizes: &mut [u64; 4],
+) -> u32
+    ensures { λ r. ⌜ (let lent = buffers (now («bone_name_bytes» .entry)) (now («bone_name_ends» .entry)) (now («morph_name_bytes» .entry)) (now («morph_name_ends» .entry))
+        (now («camera_frames» .entry)) (now («light_frames» .entry)) (now («self_shadow_frames» .entry)) (now («property_frames» .entry))
+        (now («bone_name_indices» .entry)) (now («bone_frames» .entry)) (now («bone_translations_xyz» .entry)) (now («bone_rotations_xyzw» .entry))
+        (now («bone_interpolations» .entry)) (now («morph_name_indices» .entry)) (now («morph_frames» .entry)) (now («morph_weights» .entry)) in
+        (r ≡ status (split-answer lenient (now (file .entry)) lent))
+        × (now (sizes .exit) ≡ slot-after (now (sizes .entry)) size-words (split-answer lenient (now (file .entry)) lent))
+        × (buffers (now («bone_name_bytes» .exit)) (now («bone_name_ends» .exit)) (now («morph_name_bytes» .exit)) (now («morph_name_ends» .exit))
+        (now («camera_frames» .exit)) (now («light_frames» .exit)) (now («self_shadow_frames» .exit)) (now («property_frames» .exit))
+        (now («bone_name_indices» .exit)) (now («bone_frames» .exit)) (now («bone_translations_xyz» .exit)) (now («bone_rotations_xyzw» .exit))
+        (now («bone_interpolations» .exit)) (now («morph_name_indices» .exit)) (now («morph_frames» .exit)) (now («morph_weights» .exit))
+        ≡ parts-left lent (split lenient (now (file .entry)) lent))) ⌝ }
+{
+    let answer = vmd_split::split_vmd_animation_into_parts(
+        file,
+        bone_name_bytes,
+        bone_name_ends,
+        morph_name_bytes,
+        morph_name_ends,
+        camera_frames,
+        light_frames,
+        self_shadow_frames,
+        property_frames,
+        bone_name_indices,
+        bone_frames,
+        bone_translations_xyz,
+        bone_rotations_xyzw,
+        bone_interpolations,
+        morph_name_indices,
+        morph_frames,
+        morph_weights,
+    );
+    report_sizes(answer, sizes)
 }

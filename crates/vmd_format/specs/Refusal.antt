@@ -1,4 +1,4 @@
--- The refusals of document 01, "What is turned down", and their numbers. Definitions only.
+-- The refusals of document 01, "What is turned down", and of the requests of 02, and their numbers. Definitions only.
 use Prim.Native.Nat.{ℕ}
 
 pub data Refusal : Type 0 where
@@ -28,6 +28,8 @@ pub data Refusal : Type 0 where
   name-index-too-large : Refusal
   -- output shorter than the export
   output-too-short : Refusal
+  -- 02 a): a table, column or record buffer is too short or a name table passes 4,294,967,295 bytes
+  parts-do-not-fit : Refusal
 
 abbrev pub number : Refusal → ℕ
 number file-ends-early = 1
@@ -43,3 +45,4 @@ number columns-disagree = 10
 number count-too-large = 11
 number name-index-too-large = 12
 number output-too-short = 13
+number parts-do-not-fit = 14

@@ -1,6 +1,6 @@
 -- Laws of writing what the parts mean: floats, and records from columns. Assumes nothing.
 use Prim.Native.Nat.{ℕ, zero, suc, _+_, _-_, _*_, _≤_, _<_}
-use mathlib.Core.Path.{_≡_, ap, sym, _∙_}
+use mathlib.Core.Path.{_≡_, ap, _∙_}
 use mathlib.Core.Bool.{true, _&&_, and-eq-true-iff}
 use mathlib.Core.List.{List, [], _∷_, _++_, append-assoc}
 use native.Mathlib.Omega.{arith}
@@ -12,7 +12,7 @@ use Rattle.vmd_format.specs.BytesLaws.{padded-length}
 use Rattle.vmd_format.specs.Read.{write-all}
 use Rattle.vmd_format.specs.Parts.{finite, all-finite}
 use Rattle.vmd_bytes.specs.Slices.{splice, run}
-use Rattle.vmd_bytes.proofs.Laws.{splice-append-at, length-u32-bytes, length-run, run-add}
+use Rattle.vmd_bytes.proofs.Laws.{splice-append-at, length-u32-bytes}
 use Rattle.vmd_bytes.proofs.Writes.{Filling, filling-start, filling-turn, filling-end}
 use Rattle.vmd_check_columns.specs.Meaning.{bits}
 use Rattle.vmd_write_columns.specs.Stages.{BoneThere, bone-bytes}
@@ -70,13 +70,6 @@ module _ {xs : List Float} {l : List ℕ} {to : ℕ} where
 
     pub pouring-end : left ≡ 0 → x ≡ splice l to w
     pouring-end e = filling-end (g .fill) (rw e) .holds
-
--- ---- copies one after another
-
-pub copied-on : {x o : List ℕ} (s : List ℕ) (at : ℕ) (l : List ℕ) (to n m : ℕ) → at + n ≤ length s → to + n ≤ length l
-    → x ≡ splice l to (run s at n) → o ≡ splice x (to + n) (run s (at + n) m) → o ≡ splice l to (run s at (n + m))
-copied-on s at l to n m h r e f =
-    f ∙ rw e (splice-append-at l to (run s at n) (run s (at + n) m) n (length-run s at n h) r ∙ ap (splice l to) (sym (run-add s at n m)))
 
 -- ---- fields one after another
 

@@ -108,26 +108,6 @@ fn write_floats(xs: &[f32], at: usize, n: usize, out: &mut [u8], to: usize)
     }
 }
 
-// Copies four words.
-fn copy_four_words(src: &[u8], at: usize, out: &mut [u8], to: usize)
-    requires { ⌜ (at + 32 ≤ length (now src)) × (to + 32 ≤ length (now out)) ⌝ }
-    ensures { λ _. ⌜ now (out .exit) ≡ splice (now (out .entry)) to (run (now (src .entry)) at 32) ⌝ }
-{
-    vmd_bytes::copy_word(src, at, out, to);
-    vmd_bytes::copy_word(src, at + 8, out, to + 8);
-    vmd_bytes::copy_word(src, at + 16, out, to + 16);
-    vmd_bytes::copy_word(src, at + 24, out, to + 24);
-}
-
-// Copies the 64 interpolation bytes of a bone by words: the compiler leaves a loop over so few bytes as single bytes.
-fn copy_interpolation(src: &[u8], at: usize, out: &mut [u8], to: usize)
-    requires { ⌜ (at + 64 ≤ length (now src)) × (to + 64 ≤ length (now out)) ⌝ }
-    ensures { λ _. ⌜ now (out .exit) ≡ splice (now (out .entry)) to (run (now (src .entry)) at 64) ⌝ }
-{
-    copy_four_words(src, at, out, to);
-    copy_four_words(src, at + 32, out, to + 32);
-}
-
 // The fields of a bone: its name, n bytes at a place of the table's, and the others at an index of their columns. The frame
 // is written over the last byte of the name's words.
 fn write_bone_frame(
@@ -162,7 +142,7 @@ fn write_bone_frame(
         to + VmdParsedBoneFrame::ROTATION_OFFSET,
     );
     let at = INTERPOLATION_SIZE * i;
-    copy_interpolation(
+    vmd_bytes::copy_interpolation(
         interpolations,
         at,
         out,

@@ -35,9 +35,21 @@ pub enum Alter {
     BuildByte,
     BuildInRefusal,
     NameTest,
+    SplitSizes,
+    SplitRefusal,
+    SplitInRefusal,
+    SplitPastItsEnd,
+    SplitNameEnd,
+    SplitNamesSorted,
+    SplitIndex,
+    SplitNanMadeQuiet,
+    SplitWeight,
+    SplitPerspective,
+    SplitIkEnabled,
+    SplitInterpolation,
 }
 
-pub const ALTERATIONS: [Alter; 29] = [
+pub const ALTERATIONS: [Alter; 41] = [
     Alter::OpeningRefusal,
     Alter::OpeningCount,
     Alter::OpeningPlace,
@@ -67,6 +79,18 @@ pub const ALTERATIONS: [Alter; 29] = [
     Alter::BuildByte,
     Alter::BuildInRefusal,
     Alter::NameTest,
+    Alter::SplitSizes,
+    Alter::SplitRefusal,
+    Alter::SplitInRefusal,
+    Alter::SplitPastItsEnd,
+    Alter::SplitNameEnd,
+    Alter::SplitNamesSorted,
+    Alter::SplitIndex,
+    Alter::SplitNanMadeQuiet,
+    Alter::SplitWeight,
+    Alter::SplitPerspective,
+    Alter::SplitIkEnabled,
+    Alter::SplitInterpolation,
 ];
 
 static ALTERED: AtomicUsize = AtomicUsize::new(Alter::Nothing as usize);

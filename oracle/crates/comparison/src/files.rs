@@ -1,8 +1,9 @@
-//! One file through every call of the reader and the exporter.
+//! One file through every call of the reader and the exporter, and split into parts.
 
 use crate::check::{check_size, check_written, same, Checked};
 use crate::lent::{Input, Output, Scratch};
 use crate::library::{self, Opening};
+use crate::split::SplitCheck;
 use mmd_anim_format::vmd::{
     read_header, VmdParsedAnimation, VmdParsedBoneFrame, VmdParsedCameraFrame, VmdParsedLightFrame, VmdParsedMorphFrame,
     VmdParsedPropertyFrame, VmdParsedSelfShadowFrame,
@@ -21,6 +22,7 @@ pub struct FileCheck {
     scratch: Scratch,
     pub records: u64,
     pub lights: LightNans,
+    pub split: SplitCheck,
 }
 
 /// The call with f32 fields keeps a NaN a NaN, and need not keep its bits.
@@ -54,6 +56,7 @@ impl FileCheck {
         }
         check_size("export size", &exported, |size| library::export_size(file, size))?;
         check_written("export", &exported, &mut self.output, |out, written| library::export_animation(file, out, written))?;
+        self.split.check(file, &take, &exported)?;
         Ok(take.err().unwrap_or(0))
     }
 

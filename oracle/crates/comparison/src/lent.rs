@@ -1,31 +1,51 @@
 //! Buffers lent to a call, with a pattern in them and around them, so that every byte written can be told.
 
+use std::fmt::LowerHex;
+
 const GUARD: usize = 24;
 
-fn pattern(i: usize) -> u8 {
-    (i as u8).wrapping_mul(151) ^ 0x5a ^ (i >> 8) as u8
+/// What a lent place holds before a call.
+pub trait Pattern: Copy + PartialEq + LowerHex {
+    fn pattern(i: usize) -> Self;
 }
 
-/// An output.
-#[derive(Default)]
-pub struct Output {
-    pattern: Vec<u8>,
-    buffer: Vec<u8>,
+impl Pattern for u8 {
+    fn pattern(i: usize) -> u8 {
+        (i as u8).wrapping_mul(151) ^ 0x5a ^ (i >> 8) as u8
+    }
 }
 
-impl Output {
-    pub fn lend(&mut self, len: usize) -> &mut [u8] {
+impl Pattern for u32 {
+    fn pattern(i: usize) -> u32 {
+        0x5a5a_0000 + i as u32
+    }
+}
+
+/// An output, of bytes or of other numbers.
+pub struct Output<T = u8> {
+    pattern: Vec<T>,
+    buffer: Vec<T>,
+}
+
+impl<T> Default for Output<T> {
+    fn default() -> Self {
+        Output { pattern: Vec::new(), buffer: Vec::new() }
+    }
+}
+
+impl<T: Pattern> Output<T> {
+    pub fn lend(&mut self, len: usize) -> &mut [T] {
         let whole = len + 2 * GUARD;
         while self.pattern.len() < whole {
-            self.pattern.push(pattern(self.pattern.len()));
+            self.pattern.push(T::pattern(self.pattern.len()));
         }
         self.buffer.clear();
         self.buffer.extend_from_slice(&self.pattern[..whole]);
         &mut self.buffer[GUARD..GUARD + len]
     }
 
-    /// These bytes were written at the front, and nothing else.
-    pub fn holds(&self, written: &[u8]) -> Result<(), String> {
+    /// These were written at the front, and nothing else.
+    pub fn holds(&self, written: &[T]) -> Result<(), String> {
         let end = GUARD + written.len();
         let as_expected = |i: usize| if (GUARD..end).contains(&i) { written[i - GUARD] } else { self.pattern[i] };
         let same = self.buffer[GUARD..end] == *written
@@ -35,7 +55,8 @@ impl Output {
             return Ok(());
         }
         let i = (0..self.buffer.len()).find(|&i| self.buffer[i] != as_expected(i)).unwrap();
-        Err(format!("byte {} of the output is {:#04x}, not {:#04x}", i as i64 - GUARD as i64, self.buffer[i], as_expected(i)))
+        let (at, is, not) = (i as i64 - GUARD as i64, self.buffer[i], as_expected(i));
+        Err(format!("place {at} of the output is {is:#04x}, not {not:#04x}"))
     }
 }
 

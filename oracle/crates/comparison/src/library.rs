@@ -355,3 +355,95 @@ fn alter_build(answer: u32, out: &mut [u8], written: &mut u64) -> u32 {
     }
     answer
 }
+
+// ---- parts out of a take
+
+/// The sixteen buffers of a split, in their order; floats as their bits.
+pub struct Lent<'a> {
+    pub bone_name_bytes: &'a mut [u8],
+    pub bone_name_ends: &'a mut [u32],
+    pub morph_name_bytes: &'a mut [u8],
+    pub morph_name_ends: &'a mut [u32],
+    pub camera_frames: &'a mut [u8],
+    pub light_frames: &'a mut [u8],
+    pub self_shadow_frames: &'a mut [u8],
+    pub property_frames: &'a mut [u8],
+    pub bone_name_indices: &'a mut [u32],
+    pub bone_frames: &'a mut [u32],
+    pub bone_translations_xyz: &'a mut [u32],
+    pub bone_rotations_xyzw: &'a mut [u32],
+    pub bone_interpolations: &'a mut [u8],
+    pub morph_name_indices: &'a mut [u32],
+    pub morph_frames: &'a mut [u32],
+    pub morph_weights: &'a mut [u32],
+}
+
+/// bone names, their bytes, morph names, their bytes
+pub fn split_sizes(file: &[u8], sizes: &mut [u64; 4]) -> u32 {
+    let answer = unsafe { header::vmd_split_sizes(pointer(file), file.len(), sizes) };
+    if altered(Alter::SplitSizes) && answer == 0 {
+        sizes[3] += 1;
+    }
+    answer
+}
+
+#[rustfmt::skip]
+pub fn split_animation_into_parts(file: &[u8], mut p: Lent, sizes: &mut [u64; 4]) -> u32 {
+    let answer = unsafe {
+        header::vmd_split_animation_into_parts(
+            pointer(file), file.len(),
+            pointer_mut(p.bone_name_bytes), p.bone_name_bytes.len(),
+            pointer_mut(p.bone_name_ends), p.bone_name_ends.len(),
+            pointer_mut(p.morph_name_bytes), p.morph_name_bytes.len(),
+            pointer_mut(p.morph_name_ends), p.morph_name_ends.len(),
+            pointer_mut(p.camera_frames), p.camera_frames.len(),
+            pointer_mut(p.light_frames), p.light_frames.len(),
+            pointer_mut(p.self_shadow_frames), p.self_shadow_frames.len(),
+            pointer_mut(p.property_frames), p.property_frames.len(),
+            pointer_mut(p.bone_name_indices), p.bone_name_indices.len(),
+            pointer_mut(p.bone_frames), p.bone_frames.len(),
+            pointer_mut(p.bone_translations_xyz), p.bone_translations_xyz.len(),
+            pointer_mut(p.bone_rotations_xyzw), p.bone_rotations_xyzw.len(),
+            pointer_mut(p.bone_interpolations), p.bone_interpolations.len(),
+            pointer_mut(p.morph_name_indices), p.morph_name_indices.len(),
+            pointer_mut(p.morph_frames), p.morph_frames.len(),
+            pointer_mut(p.morph_weights), p.morph_weights.len(),
+            sizes,
+        )
+    };
+    alter_split(answer, &mut p, sizes)
+}
+
+fn alter_split(answer: u32, p: &mut Lent, sizes: &[u64; 4]) -> u32 {
+    if altered(Alter::SplitRefusal) && answer == original::PARTS_DO_NOT_FIT {
+        return original::OUTPUT_TOO_SHORT;
+    }
+    if altered(Alter::SplitInRefusal) && answer != 0 {
+        p.morph_frames.iter_mut().take(1).for_each(|frame| *frame ^= 1);
+    }
+    if answer != 0 {
+        return answer;
+    }
+    let names = sizes[0] as usize;
+    if altered(Alter::SplitPastItsEnd) {
+        p.bone_name_ends.iter_mut().skip(names).take(1).for_each(|end| *end ^= 1);
+    } else if altered(Alter::SplitNameEnd) {
+        p.bone_name_ends.iter_mut().take(names).skip(1).take(1).for_each(|end| *end ^= 1);
+    } else if altered(Alter::SplitNamesSorted) {
+        p.bone_name_bytes[..sizes[1] as usize].sort_unstable();
+    } else if altered(Alter::SplitIndex) && sizes[2] > 0 {
+        p.morph_name_indices[0] ^= 1;
+    } else if altered(Alter::SplitNanMadeQuiet) {
+        let bits = p.bone_rotations_xyzw.iter_mut().filter(|bits| f32::from_bits(**bits).is_nan());
+        bits.for_each(|bits| *bits |= 0x0040_0000);
+    } else if altered(Alter::SplitWeight) && sizes[2] > 0 {
+        p.morph_weights[0] ^= 1;
+    } else if altered(Alter::SplitPerspective) {
+        p.camera_frames.iter_mut().skip(60).take(1).for_each(|byte| *byte ^= 1);
+    } else if altered(Alter::SplitIkEnabled) && p.property_frames.get(6..9) == Some(&[0; 3]) && p.property_frames[5] > 0 {
+        p.property_frames[29] ^= 1;
+    } else if altered(Alter::SplitInterpolation) && sizes[0] > 0 {
+        p.bone_interpolations[63] ^= 1;
+    }
+    answer
+}

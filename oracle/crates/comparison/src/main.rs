@@ -1,6 +1,6 @@
 //! The proved library and the original Rust on the same inputs, every result compared.
 //!
-//!     compare N SEED          N files, N part sets, N / 10 joins and N / 10 names, beside the fixed inputs
+//!     compare N SEED          N files, N part sets, N / 10 files whose names repeat, joins and names, beside the fixed inputs
 //!     compare self-test       alters one result after another: each has to be reported
 
 mod alter;
@@ -14,6 +14,7 @@ mod library;
 mod name_test;
 mod parts;
 mod runs;
+mod split;
 mod tally;
 
 use alter::{alter, Alter, ALTERATIONS};
@@ -50,6 +51,7 @@ fn compare(cases: u64, seed: u64) -> ExitCode {
     let (files, file_check) = timed("files", || runs::files(cases, seed));
     files.print();
     print_lights(&file_check);
+    print_splits(&file_check.split);
     let joins = timed("joins", || runs::joins(cases / 10, seed));
     joins.print();
     let (parts, parts_check) = timed("parts", || runs::parts(cases, seed));
@@ -83,6 +85,14 @@ fn print_lights(check: &files::FileCheck) {
     if let Some((ours, theirs)) = nans.first {
         println!("    the first: {ours:#010x} for {theirs:#010x}");
     }
+}
+
+fn print_splits(check: &split::SplitCheck) {
+    let (built, here) = (check.built, check.built_here);
+    println!("  parts of files: from {built} the original builds the file's export, from {here} in the domain the library too");
+    let refused = (1..14).filter(|&number| check.not_built[number] > 0);
+    let refused: Vec<String> = refused.map(|number| format!("{} with {number}", check.not_built[number])).collect();
+    println!("    it refuses {}", if refused.is_empty() { "none".to_owned() } else { refused.join(", ") });
 }
 
 fn print_outside(tally: &parts::OutsideTally) {

@@ -44,7 +44,7 @@ pub fn check_built(parts: &Parts, columns: Columns, expected: &Result<Vec<u8>, u
     check_written("build", expected, output, |out, written| library::build_animation_from_parts(parts, columns, out, written))
 }
 
-fn name_outside(parts: &Parts) -> Option<(Outside, Vec<u8>)> {
+pub fn name_outside(parts: &Parts) -> Option<(Outside, Vec<u8>)> {
     if !parts.are_whole() {
         return None;
     }

@@ -7,6 +7,7 @@ use crate::name_test::NameTally;
 use crate::parts::PartsCheck;
 use crate::tally::Tally;
 use oracle::files::{self, file_kind, file_of, FileKind, FILE_KINDS};
+use oracle::named;
 use oracle::names;
 use oracle::part_sets::{self, set_kind, set_of, SetKind, FAULTS, SET_KINDS};
 use oracle::parts::Parts;
@@ -18,6 +19,7 @@ const JOINS: u64 = 2 << 60;
 const PARTS: u64 = 3 << 60;
 const NAMES: u64 = 4 << 60;
 const FIXED: u64 = 5 << 60;
+const NAMED: u64 = 6 << 60;
 
 fn hex(bytes: &[u8]) -> String {
     bytes.iter().map(|byte| format!("{byte:02x}")).collect()
@@ -29,19 +31,34 @@ const DOCUMENT_01: &str = "document 01's takes";
 const EVERY_PREFIX: &str = "every prefix of a take of six sections";
 const EVERY_CHANGE: &str = "every change of one byte of a take";
 const LARGE_COUNTS: &str = "counts that do not fit";
+const MANY_NAMES: &str = "thousands of names";
+const FEW_NAMES: &str = "names that repeat";
+
+/// A file in a report; a long one by its length alone.
+fn shown_file(file: &[u8]) -> String {
+    if file.len() < 10_000 {
+        hex(file)
+    } else {
+        format!("{} bytes", file.len())
+    }
+}
 
 pub fn files(cases: u64, seed: u64) -> (Tally, FileCheck) {
-    let fixed = [DOCUMENT_01, EVERY_PREFIX, EVERY_CHANGE, LARGE_COUNTS];
-    let labels: Vec<&str> = fixed.into_iter().chain(FILE_KINDS.map(FileKind::label)).collect();
-    let (mut tally, mut check) = (Tally::new("Files: opening, records, names, export", &labels), FileCheck::default());
+    let fixed = [DOCUMENT_01, EVERY_PREFIX, EVERY_CHANGE, LARGE_COUNTS, MANY_NAMES];
+    let labels: Vec<&str> = fixed.into_iter().chain(FILE_KINDS.map(FileKind::label)).chain([FEW_NAMES]).collect();
+    let (mut tally, mut check) = (Tally::new("Files: opening, records, names, export, parts", &labels), FileCheck::default());
     for (label, file) in fixed_files(seed) {
-        tally.count(label, check.check(&file), || hex(&file));
+        tally.count(label, check.check(&file), || shown_file(&file));
     }
     for case in 0..cases {
         let mut random = Random::for_case(seed, FILES + case);
         let kind = file_kind(&mut random);
         let file = file_of(kind, &mut random);
-        tally.count(kind.label(), check.check(&file), || format!("random file {case}: {}", hex(&file)));
+        tally.count(kind.label(), check.check(&file), || format!("random file {case}: {}", shown_file(&file)));
+    }
+    for case in 0..cases / 10 {
+        let file = named::few_names(&mut Random::for_case(seed, NAMED + case));
+        tally.count(FEW_NAMES, check.check(&file), || format!("random names {case}: {}", hex(&file)));
     }
     (tally, check)
 }
@@ -55,6 +72,7 @@ fn fixed_files(seed: u64) -> impl Iterator<Item = (&'static str, Vec<u8>)> {
         .chain(labelled(EVERY_PREFIX, files::prefixes(&whole).collect()))
         .chain(labelled(EVERY_CHANGE, files::single_byte_changes(&small).collect()))
         .chain(labelled(LARGE_COUNTS, files::large_counts()))
+        .chain(labelled(MANY_NAMES, named::many_names(&mut random)))
 }
 
 // ---- joins

@@ -188,7 +188,7 @@ pub fn put_property(out: &mut Vec<u8>, ik_states: usize, random: &mut Random) {
     }
 }
 
-fn put_record(section: usize, out: &mut Vec<u8>, random: &mut Random) {
+pub(crate) fn put_record(section: usize, out: &mut Vec<u8>, random: &mut Random) {
     match section {
         0 => put_bone(out, random),
         1 => put_morph(out, random),

@@ -1,6 +1,7 @@
 //! What the original Rust answers, and the inputs that it is asked about.
 
 pub mod files;
+pub mod named;
 pub mod names;
 pub mod original;
 pub mod part_sets;

@@ -1,18 +1,20 @@
 //! The original's answers, its errors as document 01's numbers.
 
-use crate::files::{Pieces, Section, SIZES};
-use crate::parts::{property_frames_in, Columns, Parts};
+use crate::files::{Pieces, Section, IK_STATE_SIZE, SIZES};
+use crate::parts::{property_frames_in, push_name, Columns, Parts};
 use mmd_anim_format::error::ImportError;
 pub use mmd_anim_format::vmd::VmdParsedAnimation;
 use mmd_anim_format::vmd::{
     build_vmd_animation_from_parts, export_vmd_animation, parse_vmd_animation, VmdPartsDescriptor, VmdPartsInput,
     VmdPartsNameEntry,
 };
+use std::collections::HashMap;
 
 pub const ENDS_EARLY: u32 = 1;
 pub const MAGIC_DIFFERS: u32 = 2;
 pub const PARTS_NOT_WHOLE: u32 = 5;
 pub const OUTPUT_TOO_SHORT: u32 = 13;
+pub const PARTS_DO_NOT_FIT: u32 = 14;
 
 pub fn read(file: &[u8]) -> Result<VmdParsedAnimation, u32> {
     parse_vmd_animation(file).map_err(|error| match error {
@@ -48,6 +50,55 @@ pub fn join_files(first: &[u8], second: &[u8]) -> Result<Vec<u8>, u32> {
 /// Bytes that are to be written into an output of this many bytes.
 pub fn fitted(bytes: Result<Vec<u8>, u32>, out_len: usize) -> Result<Vec<u8>, u32> {
     bytes.and_then(|bytes| if bytes.len() <= out_len { Ok(bytes) } else { Err(OUTPUT_TOO_SHORT) })
+}
+
+// ---- parts out of a take
+
+/// What the builder would take for a take that the original read and exported: the name tables by request a)'s rule, columns
+/// from the records as they were read, camera, light, self-shadow and property records from the export's bytes.
+pub fn parts_of(take: &VmdParsedAnimation, exported: &[u8]) -> Parts {
+    let mut parts = Parts { model_name: take.metadata.model_name_bytes.clone(), ..Parts::default() };
+    let mut numbers = HashMap::new();
+    for frame in &take.bone_frames {
+        let name = &frame.bone_name_bytes;
+        let index = index_of(name, &mut numbers, &mut parts.bone_name_bytes, &mut parts.bone_name_ends);
+        parts.bone_name_indices.push(index);
+        parts.bone_frames.push(frame.frame);
+        parts.bone_translations_xyz.extend_from_slice(&frame.translation);
+        parts.bone_rotations_xyzw.extend_from_slice(&frame.rotation);
+        parts.bone_interpolations.extend_from_slice(&frame.interpolation);
+    }
+    let mut numbers = HashMap::new();
+    for frame in &take.morph_frames {
+        let name = &frame.morph_name_bytes;
+        let index = index_of(name, &mut numbers, &mut parts.morph_name_bytes, &mut parts.morph_name_ends);
+        parts.morph_name_indices.push(index);
+        parts.morph_frames.push(frame.frame);
+        parts.morph_weights.push(frame.weight);
+    }
+    let mut at = 50 + 4 + SIZES[0] * take.bone_frames.len() + 4 + SIZES[1] * take.morph_frames.len();
+    let mut section = |len: usize| {
+        let begin = at + 4; // after the count
+        at = begin + len;
+        exported[begin..at].to_vec()
+    };
+    parts.camera_frames = section(SIZES[2] * take.camera_frames.len());
+    parts.light_frames = section(SIZES[3] * take.light_frames.len());
+    parts.self_shadow_frames = section(SIZES[4] * take.self_shadow_frames.len());
+    let ik_states: usize = take.property_frames.iter().map(|frame| frame.ik_states.len()).sum();
+    parts.property_frames = section(SIZES[5] * take.property_frames.len() + IK_STATE_SIZE * ik_states);
+    assert_eq!(at, exported.len());
+    parts
+}
+
+/// "Name tables hold distinct raw names in order of first appearance, and each record gets its index."
+fn index_of<'a>(name: &'a [u8], numbers: &mut HashMap<&'a [u8], u32>, bytes: &mut Vec<u8>, ends: &mut Vec<u32>) -> u32 {
+    let next = ends.len() as u32;
+    let index = *numbers.entry(name).or_insert(next);
+    if index == next {
+        push_name(bytes, ends, name);
+    }
+    index
 }
 
 // ---- building

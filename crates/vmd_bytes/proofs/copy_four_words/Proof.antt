@@ -1,9 +1,9 @@
--- `vmd_write_columns::copy_four_words` meets its contract. Assumes nothing.
+-- `vmd_bytes::copy_four_words` meets its contract. Assumes nothing.
 use native.Mathlib.Omega.{arith}
 use borrow.Author.Needs.{needs}
-use Rattle.vmd_write_columns.proofs.Writing.{copied-on}
-use Rattle.vmd_write_columns.proofs.copy_four_words.Statement.{statement}
-use Rattle.vmd_write_columns.proofs.copy_four_words.Tie as tie
+use Rattle.vmd_bytes.proofs.Laws.{copied-on}
+use Rattle.vmd_bytes.proofs.copy_four_words.Statement.{statement}
+use Rattle.vmd_bytes.proofs.copy_four_words.Tie as tie
 
 returns : tie.Need-returns
 returns c =

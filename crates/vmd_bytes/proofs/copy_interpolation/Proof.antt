@@ -1,9 +1,9 @@
--- `vmd_write_columns::copy_interpolation` meets its contract. Assumes nothing.
+-- `vmd_bytes::copy_interpolation` meets its contract. Assumes nothing.
 use native.Mathlib.Omega.{arith}
 use borrow.Author.Needs.{needs}
-use Rattle.vmd_write_columns.proofs.Writing.{copied-on}
-use Rattle.vmd_write_columns.proofs.copy_interpolation.Statement.{statement}
-use Rattle.vmd_write_columns.proofs.copy_interpolation.Tie as tie
+use Rattle.vmd_bytes.proofs.Laws.{copied-on}
+use Rattle.vmd_bytes.proofs.copy_interpolation.Statement.{statement}
+use Rattle.vmd_bytes.proofs.copy_interpolation.Tie as tie
 
 returns : tie.Need-returns
 returns c =

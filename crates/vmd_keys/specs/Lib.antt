@@ -1,0 +1,5 @@
+pub mod Names
+pub mod Keys
+pub mod Heap
+pub mod KeyLaws
+pub mod HeapLaws

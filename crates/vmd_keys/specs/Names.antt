@@ -1,0 +1,31 @@
+-- The names of a section's records, and the distinct ones of some names: 02 a), "distinct raw names in order of first
+-- appearance". Definitions only.
+use Prim.Native.Nat.{ℕ, _+_, _*_}
+use mathlib.Core.Bool.{Bool, true, false, not}
+use mathlib.Core.List.{List, [], _∷_, map}
+use lib.ListN.{take, drop}
+use Rattle.vmd_format.specs.Bytes.{before-zero}
+use Rattle.vmd_format.specs.Take.{same}
+use Rattle.vmd_format.specs.Parts.{upto}
+
+-- the name of the bone or morph at a place: a field of 15 bytes up to its first zero
+unfoldable pub name-in : List ℕ → ℕ → List ℕ
+name-in s at = before-zero (take 15 (drop at s))
+
+-- the names of n records of one size from a place on, in file order
+unfoldable pub names-in : List ℕ → ℕ → ℕ → ℕ → List (List ℕ)
+names-in s at size n = map (λ i. name-in s (at + size * i)) (upto 0 n)
+
+-- those that pass a test, in their order
+unfoldable pub keep-if : {A : Type 0} → Bool → A → List A → List A
+keep-if true a l = a ∷ l
+keep-if false a l = l
+
+unfoldable pub select : {A : Type 0} → (A → Bool) → List A → List A
+select f [] = []
+select f (a ∷ l) = keep-if (f a) a (select f l)
+
+-- the distinct ones, in order of first appearance
+unfoldable pub distinct : List (List ℕ) → List (List ℕ)
+distinct [] = []
+distinct (n ∷ l) = n ∷ select (λ m. not (same n m)) (distinct l)

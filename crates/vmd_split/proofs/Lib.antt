@@ -1,0 +1,4 @@
+pub mod Room
+pub mod Names
+pub mod Laws
+pub mod Sections

@@ -1,0 +1,653 @@
+/*
+ * Parts out of a take, through the C interface: every element of the sixteen buffers, written or not, against parts that are
+ * told by the test itself; then the builder from the same memory.
+ *
+ * Not tried: a name table that passes 4,294,967,295 bytes, which needs 286,331,154 names that differ; as morphs they have
+ * 6 GiB.
+ */
+#include "check.h"
+#include "expect.h"
+#include "parts.h"
+#include "vmd.h"
+
+enum { BUFFERS = 16 };
+
+/* The buffers in the call's order, and the bytes of an element of each. */
+enum buffer {
+    BONE_NAME_BYTES, BONE_NAME_ENDS, MORPH_NAME_BYTES, MORPH_NAME_ENDS,
+    CAMERAS, LIGHTS, SELF_SHADOWS, PROPERTIES,
+    BONE_INDICES, BONE_FRAMES, TRANSLATIONS, ROTATIONS, INTERPOLATIONS,
+    MORPH_INDICES, MORPH_FRAMES, WEIGHTS
+};
+
+static const struct {
+    const char *name;
+    size_t size;
+} buffers[BUFFERS] = {
+    {"bone name bytes", 1}, {"bone name ends", 4}, {"morph name bytes", 1}, {"morph name ends", 4},
+    {"cameras", 1}, {"lights", 1}, {"self-shadows", 1}, {"properties", 1},
+    {"bone name indices", 4}, {"bone frames", 4}, {"translations", 4}, {"rotations", 4}, {"interpolations", 1},
+    {"morph name indices", 4}, {"morph frames", 4}, {"weights", 4},
+};
+
+static struct fence lent_file, lent_parts[BUFFERS], lent_sizes, lent_out, lent_slot;
+
+/* ---- what is expected: parts as the memory of a program has them */
+
+struct parts {
+    struct bytes part[BUFFERS];
+    uint64_t sizes[4]; /* bone names, their bytes, morph names, theirs */
+};
+
+static void no_parts(struct parts *p)
+{
+    size_t k;
+    for (k = 0; k < BUFFERS; k++)
+        p->part[k].len = 0;
+    memset(p->sizes, 0, sizeof p->sizes);
+}
+
+static void add_numbers(struct bytes *part, const uint32_t *values, size_t n)
+{
+    put(part, values, n * sizeof *values);
+}
+
+/* The number of a name in a table, at whose end it is put where it is not there. */
+static uint32_t index_in_table(struct bytes *bytes, struct bytes *ends, const struct name *name)
+{
+    uint32_t k, from = 0, end, names = (uint32_t)(ends->len / sizeof end);
+    for (k = 0; k < names; k++, from = end) {
+        memcpy(&end, ends->at + k * sizeof end, sizeof end);
+        if (end - from == name->len && memcmp(bytes->at + from, name->at, name->len) == 0)
+            return k;
+    }
+    put(bytes, name->at, name->len);
+    end = (uint32_t)bytes->len;
+    add_numbers(ends, &end, 1);
+    return names;
+}
+
+static void add_name(struct parts *p, int morphs, const struct name *name)
+{
+    struct bytes *table = p->part + (morphs ? MORPH_NAME_BYTES : BONE_NAME_BYTES);
+    uint32_t index = index_in_table(table, table + 1, name);
+    add_numbers(p->part + (morphs ? MORPH_INDICES : BONE_INDICES), &index, 1);
+    p->sizes[morphs ? 2 : 0] = table[1].len / sizeof index;
+    p->sizes[morphs ? 3 : 1] = table[0].len;
+}
+
+static void add_bone(struct parts *p, const struct bone *r)
+{
+    add_name(p, 0, &r->name);
+    add_numbers(&p->part[BONE_FRAMES], &r->frame, 1);
+    add_numbers(&p->part[TRANSLATIONS], r->floats, 3);
+    add_numbers(&p->part[ROTATIONS], r->floats + 3, 4);
+    put(&p->part[INTERPOLATIONS], r->interpolation, 64);
+}
+
+static void add_morph(struct parts *p, const struct morph *r)
+{
+    add_name(p, 1, &r->name);
+    add_numbers(&p->part[MORPH_FRAMES], &r->frame, 1);
+    add_numbers(&p->part[WEIGHTS], &r->weight, 1);
+}
+
+/* The parts of a take whose every section has its records so many times over. */
+static void parts_of_times(struct parts *p, const struct take *t, size_t times)
+{
+    size_t n, i;
+    int s;
+    no_parts(p);
+    for (n = 0; n < times; n++) {
+        for (i = 0; i < t->counts[0]; i++)
+            add_bone(p, &t->bones[i]);
+        for (i = 0; i < t->counts[1]; i++)
+            add_morph(p, &t->morphs[i]);
+        for (s = 2; s < SECTIONS; s++)
+            put_records(&p->part[CAMERAS + s - 2], t, s, CANONICAL);
+    }
+}
+
+static void parts_of(struct parts *p, const struct take *t)
+{
+    parts_of_times(p, t, 1);
+}
+
+static void lengths_of(const struct parts *p, size_t n[BUFFERS])
+{
+    size_t k;
+    for (k = 0; k < BUFFERS; k++)
+        n[k] = p->part[k].len / buffers[k].size;
+}
+
+/* ---- one call: the answer, the four numbers, every byte of every buffer, and the file */
+
+/* Each buffer has its part at the front, and no other byte of it was written. */
+static void expect_parts(const struct parts *expected)
+{
+    size_t k;
+    for (k = 0; k < BUFFERS; k++) {
+        const struct bytes *part = &expected->part[k];
+        const struct fence *f = &lent_parts[k];
+        expect_unwritten(buffers[k].name, f->at - 64, 64);
+        expect(part->len <= f->len, "%s: accepted with %zu bytes for %zu", buffers[k].name, f->len, part->len);
+        if (part->len <= f->len) {
+            expect_bytes(buffers[k].name, f->at, part->at, part->len);
+            expect_unwritten(buffers[k].name, f->at + part->len, f->len - part->len);
+        }
+    }
+}
+
+static void expect_sizes(const char *what, uint32_t number, const struct parts *expected)
+{
+    if (number == VMD_OK)
+        expect_lent(what, &lent_sizes, expected->sizes, sizeof expected->sizes);
+    else
+        expect_lent_unwritten(what, &lent_sizes);
+}
+
+#define OUT_BYTES(k) (uint8_t *)p[k], n[k]
+#define OUT_NUMBERS(k) (uint32_t *)p[k], n[k]
+
+/* Buffers of these lengths. */
+static void split_into(const struct bytes *file, const size_t n[BUFFERS], uint32_t number, const struct parts *expected)
+{
+    const uint8_t *f = lend(&lent_file, file->at, file->len);
+    void *p[BUFFERS];
+    uint32_t got;
+    size_t k;
+    for (k = 0; k < BUFFERS; k++)
+        p[k] = lend_unwritten(&lent_parts[k], n[k] * buffers[k].size);
+    got = vmd_split_animation_into_parts(f, file->len, OUT_BYTES(0), OUT_NUMBERS(1), OUT_BYTES(2), OUT_NUMBERS(3),
+                                         OUT_BYTES(4), OUT_BYTES(5), OUT_BYTES(6), OUT_BYTES(7), OUT_NUMBERS(8),
+                                         OUT_NUMBERS(9), OUT_NUMBERS(10), OUT_NUMBERS(11), OUT_BYTES(12), OUT_NUMBERS(13),
+                                         OUT_NUMBERS(14), OUT_NUMBERS(15), lend_unwritten(&lent_sizes, 32));
+    expect_number("split", got, number);
+    expect_lent("file", &lent_file, file->at, file->len);
+    expect_sizes("sizes", number, expected);
+    if (number == VMD_OK)
+        expect_parts(expected);
+    else
+        for (k = 0; k < BUFFERS; k++)
+            expect_lent_unwritten(buffers[k].name, &lent_parts[k]);
+}
+
+static void sizes_of(const struct bytes *file, uint32_t number, const struct parts *expected)
+{
+    const uint8_t *f = lend(&lent_file, file->at, file->len);
+    expect_number("split_sizes", vmd_split_sizes(f, file->len, lend_unwritten(&lent_sizes, 32)), number);
+    expect_lent("file", &lent_file, file->at, file->len);
+    expect_sizes("split_sizes", number, expected);
+}
+
+/* A file that is to have these parts: in buffers that are just long enough, longer, and too short one at a time. */
+static void try_split(const struct bytes *file, const struct parts *expected)
+{
+    size_t exact[BUFFERS], n[BUFFERS], k, l;
+    lengths_of(expected, exact);
+    sizes_of(file, VMD_OK, expected);
+    split_into(file, exact, VMD_OK, expected);
+    for (k = 0; k < BUFFERS; k++)
+        n[k] = exact[k] + 1 + 7 * k % 5;
+    split_into(file, n, VMD_OK, expected);
+    /* tables for any names, both or one of them; then the names need no counting */
+    for (k = 1; k < 4; k++) {
+        memcpy(n, exact, sizeof n);
+        if (k & 1)
+            n[BONE_NAME_BYTES] = 15 * exact[BONE_INDICES], n[BONE_NAME_ENDS] = exact[BONE_INDICES];
+        if (k & 2)
+            n[MORPH_NAME_BYTES] = 15 * exact[MORPH_INDICES], n[MORPH_NAME_ENDS] = exact[MORPH_INDICES];
+        split_into(file, n, VMD_OK, expected);
+        for (l = 0; l < BUFFERS; l++)
+            if (l > MORPH_NAME_ENDS && exact[l] > 0) {
+                n[l] -= 1;
+                split_into(file, n, VMD_PARTS_DO_NOT_FIT, NULL);
+                n[l] += 1;
+            }
+    }
+    for (k = 0; k < BUFFERS; k++) {
+        memcpy(n, exact, sizeof n);
+        n[k] += 9;
+        split_into(file, n, VMD_OK, expected);
+        if (exact[k] == 0)
+            continue;
+        n[k] = exact[k] - 1;
+        split_into(file, n, VMD_PARTS_DO_NOT_FIT, NULL);
+        n[k] = 0;
+        split_into(file, n, VMD_PARTS_DO_NOT_FIT, NULL);
+        for (l = 0; l < BUFFERS; l++)
+            n[l] = exact[l] + 40;
+        n[k] = exact[k] - 1;
+        split_into(file, n, VMD_PARTS_DO_NOT_FIT, NULL);
+    }
+}
+
+/* The file cannot be read: so it is refused, whether the buffers are long or have no elements. */
+static void try_refused(const struct bytes *file, uint32_t number)
+{
+    static const size_t none[BUFFERS];
+    size_t n[BUFFERS], k;
+    for (k = 0; k < BUFFERS; k++)
+        n[k] = 1000;
+    sizes_of(file, number, NULL);
+    split_into(file, n, number, NULL);
+    split_into(file, none, number, NULL);
+}
+
+/* ---- building from the memory that the call has written, which the builder reads as it is */
+
+/* The answer is the builder's; where that is 0, what it gives is the file's export and these bytes. */
+static void build_back(const struct bytes *file, const struct parts *expected, uint32_t number, const struct bytes *canonical)
+{
+    struct slice s[SLICES];
+    const void *p[SLICES];
+    uint64_t part[2], written = canonical->len, len = 0;
+    size_t n[BUFFERS], k;
+    static struct bytes exported;
+    uint8_t *out;
+    lengths_of(expected, n);
+    for (k = 0; k < BUFFERS; k++)
+        n[k] += 5;
+    split_into(file, n, VMD_OK, expected);
+    lengths_of(expected, n);
+    vmd_model_name(file->at, file->len, part);
+    p[0] = file->at + part[0];
+    s[0].len = part[1];
+    for (k = 0; k < BUFFERS; k++) {
+        p[k + 1] = lent_parts[k].at;
+        s[k + 1].len = n[k];
+    }
+    out = lend_unwritten(&lent_out, canonical->len);
+    expect_number("build", vmd_build_animation_from_parts(PARTS, out, canonical->len, lend_unwritten(&lent_slot, 8)), number);
+    expect_parts(expected);
+    if (number != VMD_OK) {
+        expect_lent_unwritten("output", &lent_out);
+        expect_lent_unwritten("written", &lent_slot);
+        return;
+    }
+    expect_lent("built file", &lent_out, canonical->at, canonical->len);
+    expect_lent("written", &lent_slot, &written, sizeof written);
+    expect_number("export", vmd_export_animation(file->at, file->len, exported.at, sizeof exported.at, &len), VMD_OK);
+    expect_number("export's length", len, canonical->len);
+    expect_bytes("export", exported.at, canonical->at, canonical->len);
+}
+
+/* ---- takes */
+
+static struct parts expected;
+static struct bytes file, canonical;
+
+static void try_take(const char *name, const struct take *t, enum manner manner)
+{
+    trial("%s", name);
+    encode(&file, t, manner);
+    parts_of(&expected, t);
+    try_split(&file, &expected);
+}
+
+/* All that the builder asks of names, floats and modes. */
+static struct take good_take(void)
+{
+    static const char *const names[5] = {"center", "", "\x83\x41\xB1", "fifteen letters", "center"};
+    struct take t = distinct_take(0, 10, 9, 3, 4, 6, 8);
+    size_t i, j;
+    t.model = named("\x8F\x89\x89\xB9");
+    for (i = 0; i < t.counts[0]; i++) {
+        t.bones[i].name = named(names[(i + 3) % 5]);
+        make_finite(t.bones[i].floats, 7);
+    }
+    for (i = 0; i < t.counts[1]; i++) {
+        t.morphs[i].name = named(names[7 * i % 5]);
+        make_finite(&t.morphs[i].weight, 1);
+    }
+    for (i = 0; i < t.counts[2]; i++)
+        make_finite(t.cameras[i].floats, 7);
+    for (i = 0; i < t.counts[3]; i++)
+        make_finite(t.lights[i].floats, 6);
+    for (i = 0; i < t.counts[4]; i++) {
+        t.self_shadows[i].mode = (uint8_t)(i % 3);
+        make_finite(&t.self_shadows[i].distance, 1);
+    }
+    for (i = 0; i < t.counts[5]; i++)
+        for (j = 0; j < t.properties[i].n_states; j++)
+            t.properties[i].states[j].name = named(names[(i + j) % 5]);
+    return t;
+}
+
+/* Of a file with no records no buffer needs to be there. */
+static void null_buffers(const struct bytes *file, const struct parts *expected)
+{
+    uint32_t got;
+    const uint8_t *f = lend(&lent_file, file->at, file->len);
+    got = vmd_split_animation_into_parts(f, file->len, NULL, 0, NULL, 0, NULL, 0, NULL, 0, NULL, 0, NULL, 0, NULL, 0, NULL, 0,
+                                         NULL, 0, NULL, 0, NULL, 0, NULL, 0, NULL, 0, NULL, 0, NULL, 0, NULL, 0,
+                                         lend_unwritten(&lent_sizes, 32));
+    expect_number("split", got, VMD_OK);
+    expect_lent("file", &lent_file, file->at, file->len);
+    expect_sizes("sizes", VMD_OK, expected);
+}
+
+static void takes(void)
+{
+    struct take t = empty_take();
+    try_take("the empty take", &t, CANONICAL);
+    trial("start,0");
+    file.len = 54;
+    try_split(&file, &expected);
+    trial("start,0 into null buffers");
+    null_buffers(&file, &expected);
+    t = distinct_take(20, 0, 0, 0, 0, 0, 0);
+    try_take("a model name and no records", &t, RAW);
+    t = distinct_take(0, 1, 0, 0, 0, 0, 0);
+    try_take("one bone", &t, CANONICAL);
+    t = distinct_take(3, 0, 1, 0, 0, 0, 0);
+    try_take("one morph", &t, RAW);
+    t = distinct_take(7, 12, 12, 12, 12, 12, 12);
+    try_take("six sections", &t, RAW);
+    t = distinct_take(0, 2, 4, 1, 4, 1, 4);
+    try_take("six sections and no model name", &t, CANONICAL);
+    t = leg_take();
+    try_take("a leg that goes off", &t, CANONICAL);
+    t = distinct_take(2, 0, 0, 0, 3, 3, 0);
+    try_take("lights and self-shadows", &t, RAW);
+    t = good_take();
+    try_take("a take that can be built", &t, RAW);
+}
+
+static void builds(void)
+{
+    struct take t = good_take();
+    size_t k;
+    trial("a take that can be built, built");
+    encode(&file, &t, RAW);
+    encode(&canonical, &t, CANONICAL);
+    parts_of(&expected, &t);
+    build_back(&file, &expected, VMD_OK, &canonical);
+    trial("its export, built");
+    build_back(&canonical, &expected, VMD_OK, &canonical);
+    trial("20 times its records, built");
+    encode_times(&file, &t, 20, RAW);
+    encode_times(&canonical, &t, 20, CANONICAL);
+    parts_of_times(&expected, &t, 20);
+    build_back(&file, &expected, VMD_OK, &canonical);
+    t = leg_take();
+    trial("a leg that goes off, built");
+    encode(&file, &t, RAW);
+    parts_of(&expected, &t);
+    encode(&canonical, &t, CANONICAL);
+    build_back(&file, &expected, VMD_OK, &canonical);
+
+    /* what a file may have and the builder does not take */
+    for (k = 0; k < 5; k++) {
+        static const uint32_t numbers[5] = {
+            VMD_NAME_NOT_GOOD, VMD_NOT_FINITE, VMD_NOT_FINITE, VMD_SELF_SHADOW_UNFIT, VMD_NAME_NOT_GOOD
+        };
+        t = good_take();
+        switch (k) {
+        case 0: t.morphs[3].name = named("\x83"); break;
+        case 1: t.bones[9].floats[6] = 0x7FC12345; break;
+        case 2: t.morphs[8].weight = 0xFF800001; break;
+        case 3: t.self_shadows[5].mode = 3; break;
+        case 4: t.model = named("\xA0"); break;
+        }
+        trial("a take that the builder refuses with %u", (unsigned)numbers[k]);
+        encode(&file, &t, RAW);
+        encode(&canonical, &t, CANONICAL);
+        parts_of(&expected, &t);
+        build_back(&file, &expected, numbers[k], &canonical);
+    }
+}
+
+/* Every float of a record is each odd one in turn; in the columns it keeps its bits. */
+static void odd_floats_anywhere(void)
+{
+    size_t from, n[BUFFERS];
+    for (from = 0; from < ODD; from++) {
+        struct take t = odd_floats_take(from);
+        trial("odd floats from the %zuth on", from);
+        encode(&file, &t, RAW);
+        parts_of(&expected, &t);
+        lengths_of(&expected, n);
+        split_into(&file, n, VMD_OK, &expected);
+    }
+}
+
+/* Perspective, visible and enabled bytes 0, 1, 2, 7 and 255: all but 0 are written 1. IK states follow their frame. */
+static void flags(void)
+{
+    static const uint8_t bytes[5] = {0, 1, 2, 7, 255};
+    const uint8_t *camera, *property;
+    struct take t = distinct_take(0, 0, 0, 5, 0, 0, 5);
+    size_t k, n[BUFFERS];
+    for (k = 0; k < 5; k++) {
+        t.cameras[k].perspective = bytes[k];
+        t.properties[k].visible = bytes[k];
+        t.properties[k].n_states = 1;
+        t.properties[k].states[0].name = named("leg");
+        t.properties[k].states[0].enabled = bytes[4 - k];
+    }
+    try_take("flags of any value", &t, RAW);
+    lengths_of(&expected, n);
+    split_into(&file, n, VMD_OK, &expected);
+    camera = lent_parts[CAMERAS].at;
+    property = lent_parts[PROPERTIES].at;
+    expect_number("bytes of property frames", n[PROPERTIES], 5 * (9 + 21));
+    for (k = 0; k < 5; k++) {
+        expect_number("perspective", camera[61 * k + 60], k > 0);
+        expect_number("visible", property[30 * k + 4], k > 0);
+        expect_number("IK states", u32_at(property + 30 * k + 5), 1);
+        expect_bytes("IK name", property + 30 * k + 9, "leg\0\0\0\0\0\0\0\0\0\0\0\0\0\0\0\0", 20);
+        expect_number("enabled", property[30 * k + 29], k < 4);
+    }
+}
+
+/* ---- names */
+
+/* A take of records with these names; bytes after a name's zero differ from record to record. */
+static void try_names(const char *what, const struct name *names, size_t n, int morphs)
+{
+    static struct take t;
+    size_t i, k;
+    t = distinct_take(4, 0, 0, 1, 0, 0, 2);
+    trial("%s: %zu %s", what, n, morphs ? "morphs" : "bones");
+    no_parts(&expected);
+    file.len = 0;
+    put_header(&file, &t.model, RAW);
+    put_u32(&file, morphs ? 0 : (uint32_t)n);
+    if (morphs)
+        put_u32(&file, (uint32_t)n);
+    for (i = 0; i < n; i++) {
+        struct bone bone;
+        struct morph morph;
+        size_t at = file.len;
+        bone.name = morph.name = names[i];
+        bone.frame = morph.frame = (uint32_t)i;
+        next_u32s(bone.floats, 7);
+        next_bytes(bone.interpolation, 64);
+        morph.weight = next_u32();
+        if (morphs) {
+            put_morph(&file, &morph, RAW);
+            add_morph(&expected, &morph);
+        } else {
+            put_bone(&file, &bone, RAW);
+            add_bone(&expected, &bone);
+        }
+        for (k = names[i].len + 1; k < 15; k++)
+            file.at[at + k] = (uint8_t)next_byte();
+    }
+    if (!morphs)
+        put_u32(&file, 0);
+    for (k = 2; k < SECTIONS; k++) {
+        put_u32(&file, (uint32_t)t.counts[k]);
+        put_records(&file, &t, (int)k, RAW);
+        put_records(&expected.part[CAMERAS + k - 2], &t, (int)k, CANONICAL);
+    }
+    try_split(&file, &expected);
+}
+
+/* Of bones, and of morphs. */
+static void try_names_of_both(const char *what, const struct name *names, size_t n)
+{
+    try_names(what, names, n, 0);
+    try_names(what, names, n, 1);
+}
+
+/* A name of this length that a number has: its digits to the base 8, the last ones first or last. */
+static struct name numbered(uint32_t number, size_t len, int first)
+{
+    struct name n;
+    size_t k;
+    memset(&n, 0, sizeof n);
+    n.len = len;
+    for (k = 0; k < len; k++) {
+        n.at[first ? k : len - 1 - k] = (uint8_t)(number % 8 * 32 + 7);
+        number /= 8;
+    }
+    return n;
+}
+
+static void names(void)
+{
+    enum { MANY = 2200 };
+    static struct name all[MANY];
+    static const char *const few[] = {"", "a", "", "b", "a", "ab", "aa", "b", "", "\xFF", "\x7F", "\x80", "\x0A", "a\x0A"};
+    size_t i, len, n = sizeof few / sizeof *few;
+    for (i = 0; i < n; i++)
+        all[i] = named(few[i]);
+    try_names_of_both("empty, repeated and first ones first", all, n);
+    expect_number("names", expected.sizes[2], 10);
+    expect_number("their bytes", expected.sizes[3], 0 + 1 + 1 + 2 + 2 + 1 + 1 + 1 + 1 + 2);
+    for (i = 0; i < 40; i++)
+        all[i] = named("");
+    try_names_of_both("empty ones alone", all, 40);
+    for (i = 0; i < 40; i++)
+        all[i] = named("fifteen letters");
+    try_names_of_both("one that fills its field", all, 40);
+    for (i = 0; i < 32; i++)
+        all[i] = numbered(0x3FFFFFFF, i % 16, 0);
+    try_names_of_both("each the next one's beginning, twice", all, 32);
+    for (i = 0; i < 32; i++)
+        all[i] = numbered(0x3FFFFFFF, 15 - i / 2, 0);
+    try_names_of_both("each the next one's beginning, the longest first", all, 32);
+    for (i = 0; i < 15 * 4; i++) {
+        all[i] = named("fifteen_letters");
+        all[i].at[i / 4] ^= (uint8_t)(i % 4 << 5);
+    }
+    try_names_of_both("other in one byte", all, 60);
+    for (len = 4; len <= 15; len += 11) {
+        for (i = 0; i < MANY; i++)
+            all[i] = numbered((uint32_t)i, len, 0);
+        try_names_of_both("all different, rising", all, MANY);
+        for (i = 0; i < MANY; i++)
+            all[i] = numbered((uint32_t)(MANY - 1 - i), len, 0);
+        try_names_of_both("all different, falling", all, MANY);
+        for (i = 0; i < MANY; i++)
+            all[i] = numbered((uint32_t)i, len, 1);
+        try_names_of_both("all different in their first bytes", all, MANY);
+        for (i = 0; i < MANY; i++)
+            all[i] = numbered((uint32_t)(7 * i % 31), 1 + i % len, (int)(i / 31 % 2));
+        try_names_of_both("few in any order", all, MANY);
+    }
+}
+
+/* ---- files as others write them, and files that are refused */
+
+/* A file cut anywhere has the parts of what it means, or is refused. */
+static void cut_anywhere(void)
+{
+    static struct opening o;
+    struct take t = distinct_take(9, 2, 2, 2, 2, 2, 3);
+    size_t n, s;
+    encode(&file, &t, RAW);
+    for (n = file.len; n-- > 0;) {
+        struct take cut = t;
+        uint32_t number;
+        size_t lengths[BUFFERS];
+        file.len = n;
+        number = expected_opening(file.at, n, &o);
+        for (s = 0; s < SECTIONS; s++)
+            cut.counts[s] = o.counts[s];
+        trial("a file cut after %zu bytes", n);
+        if (number != VMD_OK) {
+            try_refused(&file, number);
+            continue;
+        }
+        parts_of(&expected, &cut);
+        lengths_of(&expected, lengths);
+        sizes_of(&file, VMD_OK, &expected);
+        split_into(&file, lengths, VMD_OK, &expected);
+    }
+}
+
+/* A count that the rest of the file cannot hold, of each section, and bytes over. */
+static void other_counts(void)
+{
+    struct take t = distinct_take(9, 2, 2, 2, 2, 2, 3);
+    static struct opening o;
+    size_t s, k;
+    for (s = 0; s < SECTIONS; s++) {
+        struct take means = t;
+        encode(&file, &t, RAW);
+        expected_opening(file.at, file.len, &o);
+        memset(file.at + o.places[s] - 4, 0xFF, 4);
+        trial("a count of section %zu that is too large", s);
+        if (s < 2 || s == 5) {
+            try_refused(&file, VMD_ENDS_EARLY);
+            continue;
+        }
+        for (k = s; k < SECTIONS; k++)
+            means.counts[k] = 0;
+        parts_of(&expected, &means);
+        try_split(&file, &expected);
+    }
+    trial("bytes after the last property frame");
+    encode(&file, &t, RAW);
+    put(&file, file.at, 50);
+    parts_of(&expected, &t);
+    try_split(&file, &expected);
+}
+
+static void refusals(void)
+{
+    struct take t = distinct_take(5, 2, 1, 1, 1, 1, 3);
+    encode(&file, &t, RAW);
+    trial("a file whose last byte is missing");
+    file.len -= 1;
+    try_refused(&file, VMD_ENDS_EARLY);
+    trial("another magic");
+    file.len += 1;
+    file.at[0] = 'v';
+    try_refused(&file, VMD_MAGIC_DIFFERS);
+    trial("no bytes at all");
+    file.len = 0;
+    try_refused(&file, VMD_ENDS_EARLY);
+}
+
+/* More records of each kind than one byte can count. */
+static void many_records(void)
+{
+    struct take t = distinct_take(3, 5, 6, 5, 6, 7, 8);
+    size_t n[BUFFERS];
+    trial("60 times the records of a take");
+    encode_times(&file, &t, 60, RAW);
+    parts_of_times(&expected, &t, 60);
+    lengths_of(&expected, n);
+    sizes_of(&file, VMD_OK, &expected);
+    split_into(&file, n, VMD_OK, &expected);
+    n[WEIGHTS] -= 1;
+    split_into(&file, n, VMD_PARTS_DO_NOT_FIT, NULL);
+}
+
+int main(void)
+{
+    takes();
+    builds();
+    odd_floats_anywhere();
+    flags();
+    names();
+    cut_anywhere();
+    other_counts();
+    refusals();
+    many_records();
+    return finished("split");
+}
