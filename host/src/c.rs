@@ -218,6 +218,31 @@ pub fn first_fault(name: &[u8]) -> usize {
     unsafe { header::vmd_first_fault(name.as_ptr(), name.len()) }
 }
 
+/// Hands a macro the parts, in the header's order, after those named here.
+macro_rules! with_parts {
+    ($calls:ident! $($first:ident)*) => {
+        $calls! {
+            $($first)*
+            bone_name_bytes
+            bone_name_ends
+            morph_name_bytes
+            morph_name_ends
+            camera_frames
+            light_frames
+            self_shadow_frames
+            property_frames
+            bone_name_indices
+            bone_frames
+            bone_translations_xyz
+            bone_rotations_xyzw
+            bone_interpolations
+            morph_name_indices
+            morph_frames
+            morph_weights
+        }
+    };
+}
+
 /// The two calls over parts: each part is a pointer and a length, in the header's order.
 macro_rules! parts_calls {
     ($($part:ident)*) => {
@@ -245,25 +270,7 @@ macro_rules! parts_calls {
     };
 }
 
-parts_calls! {
-    model_name
-    bone_name_bytes
-    bone_name_ends
-    morph_name_bytes
-    morph_name_ends
-    camera_frames
-    light_frames
-    self_shadow_frames
-    property_frames
-    bone_name_indices
-    bone_frames
-    bone_translations_xyz
-    bone_rotations_xyzw
-    bone_interpolations
-    morph_name_indices
-    morph_frames
-    morph_weights
-}
+with_parts!(parts_calls! model_name);
 
 /// How long the name tables are that [`split_into`] writes.
 pub fn split_sizes(file: &[u8]) -> Result<TableSizes, Refusal> {
@@ -386,24 +393,7 @@ macro_rules! split_calls {
     };
 }
 
-split_calls! {
-    bone_name_bytes
-    bone_name_ends
-    morph_name_bytes
-    morph_name_ends
-    camera_frames
-    light_frames
-    self_shadow_frames
-    property_frames
-    bone_name_indices
-    bone_frames
-    bone_translations_xyz
-    bone_rotations_xyzw
-    bone_interpolations
-    morph_name_indices
-    morph_frames
-    morph_weights
-}
+with_parts!(split_calls!);
 
 #[cfg(test)]
 mod tests {

@@ -39,7 +39,7 @@ fn is_fresh(a: &[u32], j: usize, x: u32, s: &[u8], at: usize, size: usize, n: us
 }
 
 // j, or the next place.
-pub fn advanced(j: usize, on: bool) -> usize
+pub fn next_if(j: usize, on: bool) -> usize
     requires { ⌜ j + 1 < 18446744073709551616 ⌝ }
     ensures { λ r. ⌜ r ≡ step-if on j ⌝ }
 {
@@ -60,7 +60,7 @@ fn keep_firsts(a: &mut [u32], m: usize, s: &[u8], at: usize, size: usize, n: usi
         let x = a[k];
         let on = is_fresh(a, j, x, s, at, size, n);
         a[j] = x;
-        j = advanced(j, on);
+        j = next_if(j, on);
         k += 1;
     }
     j

@@ -35,7 +35,7 @@ fn list_leaders(
         let e = vmd_keys::earlier_record(cache, s, at, size, n, i);
         leads[i] = e as u32;
         list[m] = i as u32;
-        m = vmd_count::advanced(m, e == i);
+        m = vmd_count::next_if(m, e == i);
         i += 1;
     }
     m

@@ -35,8 +35,8 @@ mul-a c = let w = c .before .before .before .before .loop .inv .1 in omega (arit
 slice-write-a : tie.Need-slice-write-a Inv-loop μ-loop
 slice-write-a c = let w = c .before .before .before .before .loop .inv .1 in omega (arith, w .long, w .behind)
 
-advanced-requires : tie.Need-advanced-requires Inv-loop μ-loop
-advanced-requires c κs = let w = c .before .before .before .before .loop .inv .1 in omega (arith, w .long, w .behind)
+next-if-requires : tie.Need-next-if-requires Inv-loop μ-loop
+next-if-requires c κs = let w = c .before .before .before .before .loop .inv .1 in omega (arith, w .long, w .behind)
 
 add-k : tie.Need-add-k Inv-loop μ-loop
 add-k c = let w = c .before .before .before .before .before .loop .inv .1 in omega (arith, w .long, w .behind)
@@ -52,7 +52,7 @@ loop-again c =
     let s = a .before .before .before in
     let l = a .loop in
     let p = s .pre in
-    (omega arith, rw (c .advanced .ensures) (firsts-turn _ _ (l .inv .1) (t .loop-test .taken) (p .0) (p .2) (i .is-fresh .ensures)))
+    (omega arith, rw (c .next-if .ensures) (firsts-turn _ _ (l .inv .1) (t .loop-test .taken) (p .0) (p .2) (i .is-fresh .ensures)))
 
 same-length : tie.Need-same-length Inv-loop μ-loop
 same-length c = c .before .loop .inv .1 .long
@@ -66,5 +66,5 @@ returns c =
 pub keep-firsts-spec : {M : Type 1} → statement M
 keep-firsts-spec =
     tie.close (tie.spec
-    Inv-loop μ-loop loop-holds mul-x slice-read-x is-fresh-requires mul-a slice-write-a advanced-requires add-k loop-less
+    Inv-loop μ-loop loop-holds mul-x slice-read-x is-fresh-requires mul-a slice-write-a next-if-requires add-k loop-less
     loop-again same-length returns)

@@ -49,7 +49,7 @@ loop-again c =
     let k : l .loop .i < length (l .loop .list) = omega (arith, v .4 .long) in (
       omega arith,
       leads-turn (v .1) (v .2) h k (e .earlier-record .ensures .0) (e .earlier-record .ensures .1),
-      rw (c .advanced .ensures) (lists-turn (v .1) (v .2) h k (e .earlier-record .ensures .0) (e .earlier-record .ensures .1)),
+      rw (c .next-if .ensures) (lists-turn (v .1) (v .2) h k (e .earlier-record .ensures .0) (e .earlier-record .ensures .1)),
       beyond-set (v .3) (l .loop .i) (e .earlier-record .result) (omega arith),
       beyond-set (v .4) (l .loop .m) (l .loop .i) (omega (arith, v .2 .few)),
       e .earlier-record .kept .0 ∙ v .5,
