@@ -1,6 +1,6 @@
-//! How long reading, saving, joining, building and splitting take, as multiples of a plain copy of the same bytes, in one
-//! process. The original Rust is measured beside where it is built in (feature `original`). Prints the tables of
-//! docs/PERFORMANCE.md.
+//! How long reading, saving, joining, building, splitting and the figures of a season take, as multiples of a plain copy of
+//! the same bytes, in one process. The original Rust is measured beside where it is built in (feature `original`). Prints the
+//! tables of docs/PERFORMANCE.md.
 //!
 //! Times are the process's CPU time. A call and its copy are measured one after the other, each in the same state of the
 //! caches: other memory is read, twice as much as the last cache holds, and then it runs several times. The first run is
@@ -350,12 +350,18 @@ fn main() {
             println!("Measured by `./bench` on {}.", machine());
             return split::table(split_sizes, &Other::new());
         }
+        [option] if option == "--season" => {
+            println!("Measured by `./bench` on {}.", machine());
+            return split::season(full, &Other::new());
+        }
         [option] if option == "--names" => {
             println!("Measured by `./bench` on {}.", machine());
             return split::all_different(if quick { [30_000, 140_000] } else { [300_000, 1_400_000] });
         }
         _ => {
-            eprintln!("bench: the options are --quick, which measures small takes, --split, --names and --against LIBRARY");
+            eprintln!(
+                "bench: the options are --quick, which measures small takes, --split, --season, --names and --against LIBRARY"
+            );
             std::process::exit(2);
         }
     }
@@ -373,5 +379,6 @@ fn main() {
     }
     growth(&sizes, &other);
     split::table(split_sizes, &other);
+    split::season(full, &other);
     memory(full);
 }

@@ -1,8 +1,8 @@
 //! Splitting takes into parts: the names counted alone, and the whole call with tables that are long enough for any names,
-//! which are then not counted, and with tables that are just long enough.
+//! which are then not counted, and with tables that are just long enough. And the figures of a season, which counts names too.
 use std::hint::black_box;
 
-use vmd::{OwnedParts, Take};
+use vmd::{OwnedParts, Season, Take};
 
 use crate::measure::{Other, seconds};
 use crate::takes::{self, Kind, Order};
@@ -10,20 +10,23 @@ use crate::{Effort, Rounds, cell, effort, head, row, shown};
 
 /// What is measured.
 #[derive(Clone, Copy)]
-enum Split {
+enum Task {
     Counting,
     LongTables,
     ExactTables,
+    Season,
 }
 
-impl Split {
-    const ALL: [Split; 3] = [Split::Counting, Split::LongTables, Split::ExactTables];
+impl Task {
+    const SPLITS: [Task; 3] = [Task::Counting, Task::LongTables, Task::ExactTables];
+    const ALL: [Task; 4] = [Task::Counting, Task::LongTables, Task::ExactTables, Task::Season];
 
     fn name(self) -> &'static str {
         match self {
-            Split::Counting => "counting names",
-            Split::LongTables => "split, tables for any names",
-            Split::ExactTables => "split, exact tables",
+            Task::Counting => "counting names",
+            Task::LongTables => "split, tables for any names",
+            Task::ExactTables => "split, exact tables",
+            Task::Season => "season figures",
         }
     }
 }
@@ -49,11 +52,12 @@ impl Case {
         Case { out: vec![1; file.len()], file, exact, long }
     }
 
-    fn run(&mut self, split: Split) {
-        match split {
-            Split::Counting => drop(black_box(vmd::split_sizes(&self.file).unwrap())),
-            Split::LongTables => split_into(&self.file, &mut self.long),
-            Split::ExactTables => split_into(&self.file, &mut self.exact),
+    fn run(&mut self, task: Task) {
+        match task {
+            Task::Counting => drop(black_box(vmd::split_sizes(&self.file).unwrap())),
+            Task::LongTables => split_into(&self.file, &mut self.long),
+            Task::ExactTables => split_into(&self.file, &mut self.exact),
+            Task::Season => assert!(Season::new().add(&self.file)),
         }
     }
 
@@ -63,13 +67,12 @@ impl Case {
     }
 
     /// Warm and cold, by what is measured.
-    fn times(&mut self, effort: Effort, other: &Other) -> [[Rounds; 2]; 3] {
-        let mut times = <[[Rounds; 2]; 3]>::default();
+    fn times<const N: usize>(&mut self, tasks: [Task; N], effort: Effort, other: &Other) -> [[Rounds; 2]; N] {
+        let mut times = tasks.map(|_| <[Rounds; 2]>::default());
         for _ in 0..effort.rounds {
-            for split in Split::ALL {
+            for (task, [warm_rounds, cold_rounds]) in tasks.into_iter().zip(&mut times) {
                 let [cold_copy, warm_copy] = other.cold_and_warm(effort.batch, || self.copy());
-                let [cold, warm] = other.cold_and_warm(effort.batch, || self.run(split));
-                let [warm_rounds, cold_rounds] = &mut times[split as usize];
+                let [cold, warm] = other.cold_and_warm(effort.batch, || self.run(task));
                 warm_rounds.push(warm, warm_copy);
                 cold_rounds.push(cold, cold_copy);
             }
@@ -83,26 +86,37 @@ fn split_into(file: &[u8], lent: &mut OwnedParts) {
     black_box(lent);
 }
 
-/// Takes with 200 names, as shows have them.
 pub fn table(sizes: &[usize], other: &Other) {
     println!("\n## Parts out of a take\n");
+    table_of(Task::SPLITS, sizes, other);
+}
+
+pub fn season(size: usize, other: &Other) {
+    println!("\n## Season figures\n\nA take added to a season's figures. The target at 32 MiB is at most 2.2, warm.\n");
+    table_of([Task::Season], &[size], other);
+}
+
+/// Takes with 200 names, as shows have them.
+fn table_of<const N: usize>(tasks: [Task; N], sizes: &[usize], other: &Other) {
     println!(
         "Takes with 200 names of 4 to 10 bytes. Medians of {} rounds, as multiples of a copy of the file in the same state of \
          the caches.",
         rounds(sizes[0]).rounds
     );
-    let columns = Split::ALL.map(|split| ["warm", "cold"].map(|state| format!("{}, {state}", split.name())));
+    let columns = tasks.map(|task| ["warm", "cold"].map(|state| format!("{}, {state}", task.name())));
     head(["take", "names", "size"].into_iter().chain(columns.as_flattened().iter().map(String::as_str)));
     let takes = [
         (Kind::Bones, Order::Grouped),
         (Kind::Bones, Order::InTurn),
         (Kind::Mixed, Order::InTurn),
         (Kind::Morphs, Order::InTurn),
+        (Kind::Bones, Order::Random),
+        (Kind::Morphs, Order::Random),
     ];
     for (kind, order) in takes {
         for &size in sizes {
             let mut case = Case::new(takes::with_names(kind, 200, order, size));
-            let times = case.times(rounds(size), other);
+            let times = case.times(tasks, rounds(size), other);
             let cells = times.as_flattened().iter().map(|rounds| cell(rounds.ratio()));
             row([kind.name().into(), order.name().into(), shown(size)].into_iter().chain(cells));
         }
@@ -116,11 +130,11 @@ fn rounds(size: usize) -> Effort {
 /// Takes in which no name appears twice.
 pub fn all_different([bones, morphs]: [usize; 2]) {
     println!("\n## Names that all differ\n\nSeconds, one run each.");
-    head(["take", "names"].into_iter().chain(Split::ALL.map(Split::name)));
+    head(["take", "names"].into_iter().chain(Task::ALL.map(Task::name)));
     for (kind, records) in [(Kind::Bones, bones), (Kind::Morphs, morphs)] {
         for order in [Order::Rising, Order::Falling, Order::Random] {
             let mut case = Case::new(takes::all_different(kind, order, records));
-            let cells = Split::ALL.map(|split| format!("{:.3}", seconds(1, || case.run(split))));
+            let cells = Task::ALL.map(|task| format!("{:.3}", seconds(1, || case.run(task))));
             row([format!("{records} {}", kind.name()), order.name().into()].into_iter().chain(cells));
         }
     }

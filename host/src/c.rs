@@ -395,6 +395,32 @@ macro_rules! split_calls {
 
 with_parts!(split_calls!);
 
+/// A season's figures as the library has them.
+#[derive(Default)]
+pub struct SeasonArrays {
+    pub counts: [u32; 12],
+    pub figures: [u64; 11],
+}
+
+pub fn season_none() -> SeasonArrays {
+    let mut season = SeasonArrays { counts: [1; 12], figures: [1; 11] }; // the zeros are to be the call's
+    // SAFETY: two arrays of this function's own.
+    unsafe { header::vmd_season_none(&mut season.counts, &mut season.figures) };
+    season
+}
+
+pub fn season_add(file: &[u8], season: &mut SeasonArrays) {
+    // SAFETY: a slice, and two arrays that are borrowed by this call alone.
+    unsafe { header::vmd_season_add(file.as_ptr(), file.len(), &mut season.counts, &mut season.figures) };
+}
+
+pub fn season_mean(season: &SeasonArrays) -> [u64; 2] {
+    let mut mean = [0; 2];
+    // SAFETY: an array to read, and one of this function's own.
+    unsafe { header::vmd_season_mean(&season.figures, &mut mean) };
+    mean
+}
+
 #[cfg(test)]
 mod tests {
     use super::*;

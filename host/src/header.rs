@@ -1,6 +1,6 @@
-//! The functions of include/vmd.h and its sizes of records, declared for Rust. This is the only such declaration: the crate
-//! has it, and the comparison with the original (oracle/) takes this file. tests/interface.rs holds it to the header,
-//! parameter by parameter.
+//! The functions of include/vmd.h, its sizes of records and its indices, declared for Rust. This is the only such
+//! declaration: the crate has it, and the comparison with the original (oracle/) takes this file. tests/interface.rs holds it
+//! to the header, parameter by parameter.
 
 /// Bytes of each record in a file.
 #[allow(dead_code)] // each user needs some of them
@@ -12,6 +12,29 @@ pub mod sizes {
     pub const VMD_SELF_SHADOW_SIZE: u64 = 9;
     pub const VMD_PROPERTY_SIZE: u64 = 9; // without its IK states
     pub const VMD_IK_STATE_SIZE: u64 = 21;
+}
+
+/// Where a section, and each of a season's figures, stands in the arrays that have them.
+#[allow(dead_code)] // each user needs some of them
+pub mod indices {
+    pub const VMD_BONES: usize = 0;
+    pub const VMD_MORPHS: usize = 1;
+    pub const VMD_CAMERAS: usize = 2;
+    pub const VMD_LIGHTS: usize = 3;
+    pub const VMD_SELF_SHADOWS: usize = 4;
+    pub const VMD_PROPERTIES: usize = 5;
+
+    // a season's counts, each with the section's index added
+    pub const VMD_SEASON_SMALLEST: usize = 0;
+    pub const VMD_SEASON_LARGEST: usize = 6;
+
+    // a season's figures
+    pub const VMD_SEASON_TOTAL: usize = 0; // with the section's index added
+    pub const VMD_SEASON_RECORDS: usize = 6;
+    pub const VMD_SEASON_BONE_NAMES: usize = 7;
+    pub const VMD_SEASON_MORPH_NAMES: usize = 8;
+    pub const VMD_SEASON_ACCEPTED: usize = 9;
+    pub const VMD_SEASON_REFUSED: usize = 10;
 }
 
 #[rustfmt::skip] // a slice's pointer and length stay on one line
@@ -145,4 +168,7 @@ unsafe extern "C" {
         morph_weights: *mut u32, morph_weights_len: usize,
         sizes: *mut [u64; 4],
     ) -> u32;
+    pub fn vmd_season_none(counts: *mut [u32; 12], figures: *mut [u64; 11]);
+    pub fn vmd_season_add(file: *const u8, file_len: usize, counts: *mut [u32; 12], figures: *mut [u64; 11]);
+    pub fn vmd_season_mean(figures: *const [u64; 11], mean: *mut [u64; 2]);
 }

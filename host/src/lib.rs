@@ -1,9 +1,10 @@
-//! VMD takes, the motion files of MikuMikuDance: read, saved, joined, built from parts and split into them.
+//! VMD takes, the motion files of MikuMikuDance: read, saved, joined, built from parts and split into them, and figures over
+//! many of them.
 //!
 //! A thin layer over the C interface of the proved library (`include/vmd.h`). What the calls answer is its doing; this crate
 //! adds the types of Rust, memory for what is written, and [`save`], which puts a take in the place of another and loses
-//! neither on the way. The calls keep no state and can be made from any thread; [`Take::parts`], [`split_into`] and
-//! [`split_sizes`] take up to 256 KiB of its stack.
+//! neither on the way. The calls keep no state and can be made from any thread; [`Take::parts`], [`split_into`],
+//! [`split_sizes`] and [`Season::add`] take up to 256 KiB of its stack.
 //!
 //! ```
 //! // a take of one property frame that switches a leg's inverse kinematics off
@@ -42,6 +43,7 @@ mod parts;
 mod refusal;
 mod rights;
 mod save;
+mod season;
 mod shown;
 #[allow(unsafe_code)]
 mod system;
@@ -51,6 +53,7 @@ pub use c::{export_into, export_size, first_fault, join_into, join_size, split_i
 pub use parts::{NameTable, OwnedParts, Parts, PartsMut, TableSizes};
 pub use refusal::{Error, Refusal};
 pub use save::{FileId, SaveError, save, save_and_clear};
+pub use season::{Figures, Mean, Season};
 pub use shown::shown;
 pub use take::{
     BoneFrame, CameraFrame, IkState, LightFrame, MorphFrame, PropertyFrame, SelfShadowFrame, Take, export, join,

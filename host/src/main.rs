@@ -1,8 +1,9 @@
-//! The command `vmd`: lists, saves and joins takes.
+//! The command `vmd`: lists, saves and joins takes, and gives the figures of a season.
 #![deny(unsafe_code)]
 
 #[allow(unsafe_code)]
 mod memory;
+mod progress;
 #[allow(unsafe_code)]
 mod streams;
 mod tree;
@@ -10,13 +11,14 @@ mod words;
 
 use std::env;
 use std::ffi::{OsStr, OsString};
-use std::fmt;
+use std::fmt::{self, Write as _};
 use std::fs::File;
 use std::io::{self, ErrorKind, Read, Write};
 use std::process::ExitCode;
 
+use progress::Progress;
 use tree::Tree;
-use vmd::{Error, FileId, Refusal, Take, shown};
+use vmd::{Error, FileId, Refusal, Season, Take, shown};
 use words::Words;
 
 const HELP: &str = "\
@@ -27,6 +29,10 @@ vmd: VMD takes (MikuMikuDance motion files)
                                   files each line has the file's name and ': ' before it
   vmd export IN -o OUT            saves a take in canonical form
   vmd join FIRST SECOND.. -o OUT  joins takes from left to right: in every section the records of each, one after another
+  vmd season FILE..               figures over all takes together, a line for each: its name, ': ' and the number. They are
+                                  how many takes were accepted and refused; for each section its records in all takes, and
+                                  the smallest and the largest number of them in a take; the distinct bone and morph names
+                                  of each take, added up; and the records per accepted take, with the remainder
   vmd --help, vmd --version
 
 IN, FIRST, SECOND and FILE may be '-' for standard input, one of them at most, and OUT for standard output. No file follows
@@ -37,6 +43,10 @@ OUT may be one of the takes that are read, and a link: then the file it leads to
 anything fails, not at all. It keeps its mode, access list and user's attributes, and its owner and group where the system
 allows it. A take that is read-only is not replaced, by root neither. A file .vmd-save-N.tmp was left by a command that was
 killed; the next one that saves in its folder removes it, unless it is OUT, was read, or something came through a pipe.
+
+In the figures of a season a take that is refused counts as refused and nowhere else. A file that cannot be read counts
+nowhere, not as refused either: the figures are those of the other files. With several files a terminal shows how far the
+command is.
 
 Exit status: 0; 1 where a take is refused; 2 for bad usage, or where a file cannot be read or written: a file OUT is as it
 was; 3 where OUT is the new file, and only its folder could not be flushed: after a loss of power the old one may be back.
@@ -50,6 +60,8 @@ const HEADER: u64 = 50;
 enum Failure {
     /// A take that is refused: its name, and why.
     Refused(String, Refusal),
+    /// A take that counts as refused only because a figure of the season has no room for it: its name.
+    NoRoom(String),
     /// A file that cannot be read or written, or too little memory.
     Io(String),
     /// The output is the new file, and its folder could not be flushed.
@@ -60,7 +72,7 @@ enum Failure {
 impl Failure {
     fn status(&self) -> u8 {
         match self {
-            Failure::Refused(..) => 1,
+            Failure::Refused(..) | Failure::NoRoom(_) => 1,
             Failure::Io(_) | Failure::Usage(_) => 2,
             Failure::Unflushed(_) => 3,
         }
@@ -101,6 +113,7 @@ impl fmt::Display for Failure {
     fn fmt(&self, f: &mut fmt::Formatter<'_>) -> fmt::Result {
         match self {
             Failure::Refused(name, refusal) => write!(f, "{name}: {}", Error::Refused(*refusal)),
+            Failure::NoRoom(name) => write!(f, "{name}: counts as refused: with it a figure would pass {}", u64::MAX),
             Failure::Io(text) | Failure::Unflushed(text) => f.write_str(text),
             Failure::Usage(text) => write!(f, "{text}; 'vmd --help' tells more"),
         }
@@ -131,6 +144,7 @@ fn run(words: &[OsString]) -> Result<u8, Failure> {
         Some("list") => list,
         Some("export") => export,
         Some("join") => join,
+        Some("season") => season,
         _ => return Err(Failure::Usage(format!("there is no command '{}'", shown(command)))),
     };
     match Words::of(words) {
@@ -141,12 +155,17 @@ fn run(words: &[OsString]) -> Result<u8, Failure> {
     .map_err(|failure| failure.in_command(command))
 }
 
-fn list(words: &Words) -> Result<u8, Failure> {
+/// The files of a command that writes none.
+fn files_alone<'w>(words: &'w Words) -> Result<&'w [&'w OsStr], Failure> {
     words.no_output()?;
-    let names = &words.files[..];
-    if names.is_empty() {
-        return Err(Failure::Usage("no file is given".into()));
+    match &words.files[..] {
+        [] => Err(Failure::Usage("no file is given".into())),
+        names => Ok(names),
     }
+}
+
+fn list(words: &Words) -> Result<u8, Failure> {
+    let names = files_alone(words)?;
     let mut status = 0;
     for name in names {
         let (line, failure) =
@@ -210,6 +229,62 @@ fn join(words: &Words) -> Result<u8, Failure> {
     }
     let joined = tree.all(join(last))?.expect("there are two takes at least");
     sources.write(to, &joined)
+}
+
+/// One take after another, each freed before the next is read.
+fn season(words: &Words) -> Result<u8, Failure> {
+    let names = files_alone(words)?;
+    let progress = Progress::new(names.len());
+    let mut season = Season::new();
+    let mut status = 0;
+    for (i, name) in names.iter().enumerate() {
+        progress.at(i + 1);
+        if let Err(failure) = Sources::default().read(name).and_then(|file| add(&mut season, name, &file)) {
+            progress.clear();
+            status = status.max(told(&failure));
+        }
+    }
+    progress.clear();
+    print(&figures(&season))?;
+    Ok(status)
+}
+
+/// Adds a take, or says why it counts as refused.
+fn add(season: &mut Season, name: &OsStr, file: &[u8]) -> Result<(), Failure> {
+    if season.add(file) {
+        return Ok(());
+    }
+    Err(match vmd::export_size(file) {
+        Err(refusal) => Failure::of(name, refusal.into()),
+        Ok(_) => Failure::NoRoom(shown_input(name)),
+    })
+}
+
+/// What is printed of a season.
+fn figures(season: &Season) -> String {
+    let mut text = String::new();
+    let mut line = |name: &str, number: u64| writeln!(text, "{name}: {number}").expect("a string takes all");
+    line("accepted takes", season.accepted);
+    line("refused takes", season.refused);
+    for (section, of) in [
+        ("bones", season.bones),
+        ("morphs", season.morphs),
+        ("cameras", season.cameras),
+        ("lights", season.lights),
+        ("self-shadows", season.self_shadows),
+        ("properties", season.properties),
+    ] {
+        line(&format!("{section}, total"), of.total);
+        line(&format!("{section}, smallest"), of.smallest.into());
+        line(&format!("{section}, largest"), of.largest.into());
+    }
+    let mean = season.mean();
+    line("distinct bone names, added up over the takes", season.bone_names);
+    line("distinct morph names, added up over the takes", season.morph_names);
+    line("records of all sections", season.records);
+    line("records per accepted take", mean.quotient);
+    line("records per accepted take, remainder", mean.remainder);
+    text
 }
 
 // ---- files
@@ -285,4 +360,23 @@ fn to_standard_output(bytes: &[u8]) -> Result<u8, Failure> {
         .and_then(|mut out| out.write_all(bytes))
         .map_err(|error| Failure::Io(format!("cannot write to standard output: {error}")))?;
     Ok(0)
+}
+
+#[cfg(test)]
+mod tests {
+    use super::*;
+
+    /// No list of files is so long: the season is set by hand.
+    #[test]
+    fn a_take_that_a_season_has_no_room_for() {
+        let mut take = b"Vocaloid Motion Data 0002".to_vec();
+        take.resize(54, 0);
+        let mut season = Season { accepted: u64::MAX, ..Season::new() };
+        let failure = add(&mut season, "take".as_ref(), &take).unwrap_err();
+        assert_eq!(failure.to_string(), "take: counts as refused: with it a figure would pass 18446744073709551615");
+        assert_eq!((failure.status(), season.refused), (1, 1));
+        let failure = add(&mut season, "take".as_ref(), &take[..53]).unwrap_err();
+        assert_eq!(failure.to_string(), "take: refused 1: the file ends early");
+        assert_eq!((failure.status(), season.refused), (1, 2));
+    }
 }

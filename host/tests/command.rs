@@ -123,6 +123,124 @@ fn joins_many() {
     }
 }
 
+/// The figures of a season as they are printed: each section's total, smallest and largest, and the rest in their order.
+fn figures(takes: [u64; 2], sections: [[u64; 3]; 6], rest: [u64; 5]) -> String {
+    let names = ["bones", "morphs", "cameras", "lights", "self-shadows", "properties"];
+    let mut text = format!("accepted takes: {}\nrefused takes: {}\n", takes[0], takes[1]);
+    for (name, [total, smallest, largest]) in names.into_iter().zip(sections) {
+        text += &format!("{name}, total: {total}\n{name}, smallest: {smallest}\n{name}, largest: {largest}\n");
+    }
+    let names = [
+        "distinct bone names, added up over the takes",
+        "distinct morph names, added up over the takes",
+        "records of all sections",
+        "records per accepted take",
+        "records per accepted take, remainder",
+    ];
+    names.into_iter().zip(rest).for_each(|(name, number)| text += &format!("{name}: {number}\n"));
+    text
+}
+
+#[test]
+fn figures_of_the_examples() {
+    let examples = concat!(env!("CARGO_MANIFEST_DIR"), "/../examples");
+    let takes = ["leap.vmd", "show.vmd", "stage.vmd", "step.vmd"];
+    let done = vmd().current_dir(examples).arg("season").args(takes).output().unwrap();
+    assert_eq!((status(&done), err(&done)), (0, String::new()));
+    let expected = "\
+accepted takes: 4
+refused takes: 0
+bones, total: 22
+bones, smallest: 0
+bones, largest: 11
+morphs, total: 8
+morphs, smallest: 0
+morphs, largest: 4
+cameras, total: 6
+cameras, smallest: 0
+cameras, largest: 3
+lights, total: 4
+lights, smallest: 0
+lights, largest: 2
+self-shadows, total: 6
+self-shadows, smallest: 0
+self-shadows, largest: 3
+properties, total: 8
+properties, smallest: 0
+properties, largest: 4
+distinct bone names, added up over the takes: 7
+distinct morph names, added up over the takes: 4
+records of all sections: 54
+records per accepted take: 13
+records per accepted take, remainder: 2
+";
+    assert_eq!(out(&done), expected);
+}
+
+/// A take that is refused counts as refused, one that cannot be read nowhere.
+#[test]
+fn figures_over_takes_that_fail() {
+    let folder = Folder::new("season");
+    folder.file("one", &bones(1, 1));
+    folder.file("six", &bones(6, 1));
+    folder.file("early", &start());
+    folder.file("other", &[0x41; 60]);
+    let season = |words: &[&str]| vmd().current_dir(&folder.0).arg("season").args(words).output().unwrap();
+    let with = |takes, bones, rest| figures(takes, [bones, [0; 3], [0; 3], [0; 3], [0; 3], [0; 3]], rest);
+    let early = "vmd: early: refused 1: the file ends early\n";
+    let other = "vmd: other: refused 2: the file is not a VMD take\n";
+    let none = "vmd: none: cannot read the file: No such file or directory (os error 2)\n";
+
+    let done = season(&["six", "one"]);
+    assert_eq!((status(&done), err(&done)), (0, String::new()));
+    assert_eq!(out(&done), with([2, 0], [7, 1, 6], [2, 0, 7, 3, 1]));
+    let done = season(&["early", "six", "other", "one"]);
+    assert_eq!((status(&done), err(&done)), (1, format!("{early}{other}")));
+    assert_eq!(out(&done), with([2, 2], [7, 1, 6], [2, 0, 7, 3, 1]));
+    let done = season(&["six", "none", "one"]);
+    assert_eq!((status(&done), err(&done)), (2, none.into()));
+    assert_eq!(out(&done), with([2, 0], [7, 1, 6], [2, 0, 7, 3, 1]));
+    let done = season(&["none", "early", "six"]);
+    assert_eq!((status(&done), err(&done)), (2, format!("{none}{early}")));
+    assert_eq!(out(&done), with([1, 1], [6, 6, 6], [1, 0, 6, 6, 0]));
+    let done = season(&["other"]);
+    assert_eq!((status(&done), err(&done)), (1, other.into()));
+    assert_eq!(out(&done), with([0, 1], [0; 3], [0; 5]));
+    let done = season(&["none"]);
+    assert_eq!((status(&done), err(&done)), (2, none.into()));
+    assert_eq!(out(&done), with([0, 0], [0; 3], [0; 5]));
+
+    let piped = given(vmd().current_dir(&folder.0).args(["season", "one", "-"]), &bones(6, 1));
+    assert_eq!((status(&piped), out(&piped)), (0, with([2, 0], [7, 1, 6], [2, 0, 7, 3, 1])));
+    let piped = given(vmd().args(["season", "-"]), &start());
+    assert_eq!((status(&piped), out(&piped)), (1, with([0, 1], [0; 3], [0; 5])));
+    assert_eq!(err(&piped), "vmd: standard input: refused 1: the file ends early\n");
+}
+
+/// On a terminal, how far it is: written over with each file, and away before anything else is written.
+#[test]
+fn a_season_on_a_terminal() {
+    let folder = Folder::new("terminal");
+    let take = bones(1, 1);
+    ["1", "2", "3", "4", "5", "6", "7", "8", "10"].iter().for_each(|name| drop(folder.file(name, &take)));
+    let shown = |words: &str| {
+        let line = format!("'{}' season {words} > out", env!("CARGO_BIN_EXE_vmd"));
+        let mut script = Command::new("script");
+        script.current_dir(&folder.0).args(["-qec", &line, "/dev/null"]).stdin(Stdio::null());
+        script.output().ok().map(|done| (status(&done), out(&done)))
+    };
+    let Some(alone) = shown("1") else { return println!("not tried: a terminal: there is no 'script' here") };
+    assert_eq!(alone, (0, String::new()), "one file has no progress");
+    let two = "\rvmd: 1 of 2\rvmd: 2 of 2\r           \r";
+    assert_eq!(shown("1 2"), Some((0, two.into())));
+    let failed = "vmd: none: cannot read the file: No such file or directory (os error 2)\r\n";
+    let at = |n: u32| format!("\rvmd: {n} of 10");
+    let clear = format!("\r{}\r", " ".repeat("vmd: 10 of 10".len()));
+    let ten = [(1..=9).map(at).collect(), clear.clone(), failed.into(), at(10), clear].concat();
+    assert_eq!(shown("1 2 3 4 5 6 7 8 none 10"), Some((2, ten)));
+    assert!(fs::read_to_string(folder.join("out")).unwrap().starts_with("accepted takes: 9\n"));
+}
+
 /// OUT may be one of the takes that are read.
 #[test]
 fn saves_over_what_it_read() {
@@ -180,6 +298,11 @@ fn usage() {
         &["join", "a", "b", "--", "-o", "c"],
         &["join", "-o", "a", "b", "c"],
         &["join", "-", "-", "-o", "b"],
+        &["season"],
+        &["season", "--all"],
+        &["season", "-", "-"],
+        &["season", ""],
+        &["season", "a", "-o", "b"],
     ] {
         let done = vmd().args(words).output().unwrap();
         assert_eq!((status(&done), out(&done)), (2, String::new()), "{words:?}");
@@ -191,6 +314,7 @@ fn usage() {
         "vmd list FILE..",
         "vmd export IN -o OUT",
         "vmd join FIRST SECOND.. -o OUT",
+        "vmd season FILE..",
         "Exit status",
         "3 where OUT is the new file",
     ] {
@@ -221,7 +345,13 @@ fn a_forgotten_output_touches_nothing() {
 #[test]
 fn help_after_a_command() {
     let help = out(&vmd().arg("--help").output().unwrap());
-    for words in [&["list", "--help"][..], &["list", "-h"], &["export", "a", "--help"], &["join", "--help", "-o", "a"]] {
+    for words in [
+        &["list", "--help"][..],
+        &["list", "-h"],
+        &["export", "a", "--help"],
+        &["join", "--help", "-o", "a"],
+        &["season", "a", "--help"],
+    ] {
         let done = vmd().args(words).output().unwrap();
         assert_eq!((status(&done), out(&done), err(&done)), (0, help.clone(), String::new()), "{words:?}");
     }
@@ -318,6 +448,9 @@ fn no_take_by_its_first_bytes() {
         assert_eq!((status(&listed), out(&listed)), (1, "refused 2\n".into()), "{from}: {}", err(&listed));
         let sentence = format!("vmd: {shown}: refused 2: the file is not a VMD take\n");
         assert_eq!(err(&listed), sentence);
+        let season = run(&["season".as_ref(), from.as_ref()]);
+        assert_eq!((status(&season), err(&season)), (1, sentence.clone()));
+        assert!(out(&season).starts_with("accepted takes: 0\nrefused takes: 1\n"), "{}", out(&season));
         let named: [&OsStr; 2] = ["-o".as_ref(), to.as_ref()];
         for words in [&["export".as_ref(), from.as_ref()][..], &["join".as_ref(), good.as_ref(), from.as_ref()]] {
             let done = run(&[words, &named].concat());
@@ -350,6 +483,18 @@ fn a_join_of_many_fits_twice_its_length() {
     let settings = format!("ulimit -v {}", (2 * takes.len() * take.len() + (16 << 20)) >> 10);
     let done = vmd_under(&settings).arg("join").args(&takes).args(["-o", "-"]).stdout(Stdio::null()).output().unwrap();
     assert_eq!((status(&done), err(&done)), (0, String::new()));
+}
+
+/// Of the takes of a season one at a time is in memory.
+#[test]
+fn a_season_fits_the_length_of_a_take() {
+    let folder = Folder::new("season-peak");
+    let record = &bones(1, 1)[54..165];
+    let take = folder.file("take", &[counts(&[150_000]), record.repeat(150_000), vec![0; 20]].concat()); // 16 MiB
+    let settings = format!("ulimit -v {}", (16 + 16) << 10);
+    let done = vmd_under(&settings).arg("season").args([&take; 7]).output().unwrap();
+    assert_eq!((status(&done), err(&done)), (0, String::new()));
+    assert!(out(&done).contains("bones, total: 1050000\n"), "{}", out(&done));
 }
 
 #[test]
@@ -400,6 +545,7 @@ fn a_standard_output_that_takes_nothing() {
         &["export", "take", "-o", "/dev/stdout"],
         &["join", "take", "take", "-o", "-"],
         &["list", "take"],
+        &["season", "take", "take"],
         &["list", "--help"],
         &["--help"],
         &["--version"],

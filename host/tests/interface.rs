@@ -1,5 +1,5 @@
-//! The C header, the Rust and the Rattle say the same: the refusals and their numbers, the records' sizes, and the
-//! functions' parameters.
+//! The C header, the Rust and the Rattle say the same: the refusals and their numbers, the records' sizes, the indices, and
+//! the functions' parameters.
 use std::collections::BTreeMap;
 use std::fs;
 use std::path::{Path, PathBuf};
@@ -116,19 +116,23 @@ fn refusals_have_the_same_names_and_numbers() {
     }
 }
 
-// ---- sizes
+// ---- sizes and indices
 
-/// Every size of a record has the same name and number in the header and in header.rs.
+/// Every size of a record and every index, which the header's enums without a name have, has the same name and number in
+/// header.rs.
 #[test]
-fn records_have_the_sizes_of_the_header() {
+fn sizes_and_indices_are_those_of_the_header() {
     let header = header();
-    let named = header.split(['{', '}', ',']).filter_map(|entry| entry.split_once('='));
-    let sizes = named.map(|(name, size)| (name.trim(), size.trim())).filter(|(name, _)| name.ends_with("_SIZE"));
+    let enums = header.split("enum {").skip(1).map(|rest| rest.split_once('}').unwrap().0);
+    let named = enums.flat_map(|entries| entries.split(',')).map(|entry| entry.split_once('=').unwrap());
+    let named: Vec<_> = named.map(|(name, number)| (name.trim(), number.trim())).collect();
     let constants = include_str!("../src/header.rs").lines().filter_map(|line| line.trim().strip_prefix("pub const "));
-    let declared = constants.map(|constant| constant.split(';').next().unwrap().split_once(": u64 = ").unwrap());
-    let declared: Vec<_> = declared.collect();
-    assert_eq!(declared, sizes.collect::<Vec<_>>());
-    assert_eq!(declared.len(), 7);
+    let declared = constants.map(|constant| {
+        let (name, number) = constant.split(';').next().unwrap().split_once(" = ").unwrap();
+        (name.split_once(':').unwrap().0, number)
+    });
+    assert_eq!(declared.collect::<Vec<_>>(), named);
+    assert_eq!(named.len(), 7 + 6 + 2 + 6);
 }
 
 // ---- functions

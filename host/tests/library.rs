@@ -2,13 +2,14 @@
 mod common;
 
 use std::array;
+use std::collections::BTreeSet;
 use std::fs;
 use std::ops::Range;
 use std::path::Path;
 use std::thread;
 
 use common::{bones, counts, start};
-use vmd::{Error, NameTable, OwnedParts, Parts, PartsMut, Refusal, TableSizes, Take};
+use vmd::{Error, Figures, Mean, NameTable, OwnedParts, Parts, PartsMut, Refusal, Season, TableSizes, Take};
 
 /// Records as a file has them, with a value of its own in every field.
 struct Records {
@@ -357,13 +358,17 @@ fn parts_that_are_refused() {
 
 // ---- parts out of a take
 
+fn examples() -> Vec<Vec<u8>> {
+    let folder = Path::new(env!("CARGO_MANIFEST_DIR")).join("../examples");
+    let files: Vec<_> = fs::read_dir(folder).unwrap().map(|entry| fs::read(entry.unwrap().path()).unwrap()).collect();
+    assert!(files.len() > 1);
+    files
+}
+
 /// The examples, and takes that the builder takes.
 #[test]
 fn parts_of_a_take_build_its_export() {
-    let examples = Path::new(env!("CARGO_MANIFEST_DIR")).join("../examples");
-    let examples = fs::read_dir(examples).unwrap().map(|entry| fs::read(entry.unwrap().path()).unwrap());
-    let mut files: Vec<_> = examples.collect();
-    assert!(files.len() > 1);
+    let mut files = examples();
     files.extend([counts(&[0]), counts(&[0; 6]), morphs(&[b"smile", b"", b"smile\0?"])]);
     files.push(vmd::join(&files[0], &files[1]).unwrap());
     for file in &files {
@@ -498,6 +503,7 @@ fn try_different_names(fields: &[Vec<u8>], times: usize, of_bones: bool) {
     assert!(indices == &(0..fields.len() as u32).collect::<Vec<_>>().repeat(times));
     assert_eq!(sizes_of(&parts), sizes);
     in_exact_tables(&file, &parts);
+    in_a_season(&file, &parts);
 }
 
 #[test]
@@ -529,14 +535,24 @@ fn in_exact_tables(file: &[u8], parts: &OwnedParts) {
     assert!(lent == *parts);
 }
 
-/// The two calls take up to 256 KiB of stack, says include/vmd.h; a thread needs some of its own.
+fn in_a_season(file: &[u8], parts: &OwnedParts) {
+    let season = season_of([file]);
+    let names = [&parts.bone_name_ends, &parts.morph_name_ends].map(|ends| ends.len() as u64);
+    assert_eq!([season.bone_names, season.morph_names], names);
+}
+
+/// The calls take up to 256 KiB of stack, says include/vmd.h; a thread needs some of its own.
 #[test]
-fn parts_in_a_thread_of_little_stack() {
+fn names_in_a_thread_of_little_stack() {
     let fields: Vec<_> = (0..5000u32).map(|i| (i % 4000).to_string().into_bytes()).collect();
     let names: Vec<&[u8]> = fields.iter().map(Vec::as_slice).collect();
     for file in [morphs(&names), named_bones(&names), six_sections()] {
         let thread = thread::Builder::new().stack_size((256 + 64) << 10);
-        let calls = move || in_exact_tables(&file, &Take::open(&file).unwrap().parts().unwrap());
+        let calls = move || {
+            let parts = Take::open(&file).unwrap().parts().unwrap();
+            in_exact_tables(&file, &parts);
+            in_a_season(&file, &parts);
+        };
         thread.spawn(calls).unwrap().join().unwrap();
     }
 }
@@ -651,6 +667,254 @@ fn parts_are_equal_by_the_bits_of_their_floats() {
         for (j, b) in all.iter().enumerate() {
             assert_eq!(a == b, i == j);
         }
+    }
+}
+
+// ---- season figures
+
+fn season_of<'f>(files: impl IntoIterator<Item = &'f [u8]>) -> Season {
+    let mut season = Season::new();
+    files.into_iter().for_each(|file| assert!(season.add(file)));
+    season
+}
+
+/// A take of so many records of each section, all of zeros: it has one bone name and one morph name.
+fn zeros(counts: [u32; 6]) -> Vec<u8> {
+    let mut file = start();
+    for (count, size) in counts.into_iter().zip([111, 23, 61, 28, 9, 9]) {
+        file.extend(count.to_le_bytes());
+        file.resize(file.len() + count as usize * size, 0);
+    }
+    file
+}
+
+/// What the figures are, from the takes as the crate reads them.
+fn expected(files: &[Vec<u8>]) -> Season {
+    let takes: Vec<_> = files.iter().map(|file| Take::open(file).unwrap()).collect();
+    let counts = takes
+        .iter()
+        .map(|take| [take.bones(), take.morphs(), take.cameras(), take.lights(), take.self_shadows(), take.properties()]);
+    let counts: Vec<_> = counts.map(|counts| counts.map(|count| count as u32)).collect();
+    let sections: [Figures; 6] = array::from_fn(|k| {
+        let counts = || counts.iter().map(|counts| counts[k]);
+        Figures {
+            total: counts().map(u64::from).sum(),
+            smallest: counts().min().unwrap_or(0),
+            largest: counts().max().unwrap_or(0),
+        }
+    });
+    let [bones, morphs, cameras, lights, self_shadows, properties] = sections;
+    let bone_names = takes.iter().map(|take| take.bone_frames().map(|bone| bone.name).collect::<BTreeSet<_>>().len());
+    let morph_names = takes.iter().map(|take| take.morph_frames().map(|morph| morph.name).collect::<BTreeSet<_>>().len());
+    Season {
+        bones,
+        morphs,
+        cameras,
+        lights,
+        self_shadows,
+        properties,
+        records: sections.iter().map(|section| section.total).sum(),
+        bone_names: bone_names.sum::<usize>() as u64,
+        morph_names: morph_names.sum::<usize>() as u64,
+        accepted: takes.len() as u64,
+        refused: 0,
+    }
+}
+
+/// Every figure has a value of its own here, but for the smallest numbers, which have theirs at the end.
+#[test]
+fn every_figure_of_a_season() {
+    let mut season = Season::new();
+    assert_eq!(season, Season::default());
+    assert_eq!(season.mean(), Mean { quotient: 0, remainder: 0 });
+    assert!(season.add(&zeros([10, 21, 32, 43, 54, 65])));
+    assert!(!season.add(b"no take"));
+    assert!(season.add(&named_bones(&[b"arm", b"", b"arm", b"leg"])));
+    assert!(!season.add(&zeros([1; 6])[..100]));
+    assert!(season.add(&morphs(&[b"smile", b"blink", b"wink", b"smile", b"cry", b"laugh"])));
+    assert!(season.add(&zeros([100, 102, 104, 106, 108, 110])));
+    assert!(!season.add(&[]));
+    let figures = |total, largest| Figures { total, smallest: 0, largest };
+    let expected = Season {
+        bones: figures(114, 100),
+        morphs: figures(129, 102),
+        cameras: figures(136, 104),
+        lights: figures(149, 106),
+        self_shadows: figures(162, 108),
+        properties: figures(175, 110),
+        records: 865,
+        bone_names: 1 + 3 + 1,
+        morph_names: 1 + 5 + 1,
+        accepted: 4,
+        refused: 3,
+    };
+    assert_eq!(season, expected);
+    assert_eq!(season.mean(), Mean { quotient: 216, remainder: 1 });
+
+    let season = season_of([&zeros([12, 11, 10, 9, 8, 7])[..], &zeros([1, 2, 3, 4, 5, 6]), &zeros([6, 8, 9, 5, 7, 7])]);
+    let smallest = [season.bones, season.morphs, season.cameras, season.lights, season.self_shadows, season.properties];
+    assert_eq!(smallest.map(|section| section.smallest), [1, 2, 3, 4, 5, 6]);
+}
+
+/// The examples, takes made by hand, one after another, and the same one forty times.
+#[test]
+fn seasons_of_takes() {
+    let mut files = examples();
+    files.extend([six_sections(), counts(&[0]), bones(7, 1), property_take(3), morphs(&[b"a\0b", b"a", b"b"])]);
+    for n in 0..=files.len() {
+        assert_eq!(season_of(files[..n].iter().map(Vec::as_slice)), expected(&files[..n]));
+    }
+    files.reverse();
+    assert_eq!(season_of(files.iter().map(Vec::as_slice)), expected(&files));
+    let forty = vec![six_sections(); 40];
+    let season = season_of(forty.iter().map(Vec::as_slice));
+    assert_eq!(season, expected(&forty));
+    assert_eq!((season.records, season.mean()), (360, Mean { quotient: 9, remainder: 0 }));
+}
+
+/// Property frames with as many IK states as their numbers: IK states and their names are no figures.
+fn property_take(n: u32) -> Vec<u8> {
+    let mut file = counts(&[0, 0, 0, 0, 0, n]);
+    for i in 0..n {
+        file.extend(i.to_le_bytes());
+        file.push(1);
+        file.extend(i.to_le_bytes());
+        file.resize(file.len() + 21 * i as usize, 0x41);
+    }
+    file
+}
+
+#[test]
+fn refused_takes_alone() {
+    let mut season = Season::new();
+    for (n, file) in (1..).zip([&[][..], &[0x41; 30], &start(), &zeros([1; 6])[..60], &bones(2, 1)[..275]]) {
+        assert!(!season.add(file));
+        assert_eq!(season, Season { refused: n, ..Season::default() });
+        assert_eq!(season.mean(), Mean::default());
+    }
+}
+
+/// Interpolation bytes and the bytes after a name's zero make no difference, nor does the order of the names.
+#[test]
+fn takes_with_equal_figures() {
+    let of = |file: &[u8]| season_of([file]);
+    let file = six_sections();
+    let curves = [54 + 47..165, 165 + 47..276, 307 + 32..307 + 56, 368 + 32..368 + 56];
+    let after_zeros = [54 + 4..69, 280 + 6..295, 496 + 5..516, 517 + 6..537];
+    for at in curves.into_iter().chain(after_zeros).flatten() {
+        let mut other = file.clone();
+        other[at] ^= 0xFF;
+        assert_eq!(of(&other), of(&file), "byte {at}");
+    }
+    for take in [named_bones, morphs] {
+        let figures = of(&take(&[b"arm", b"arm\0x", b"leg"]));
+        assert_eq!(of(&take(&[b"leg\0arm", b"arm\0leg", b"arm"])), figures);
+        assert_eq!(of(&take(&[b"leg", b"arm", b"leg"])), figures);
+        assert_ne!(of(&take(&[b"arm", b"arm\x01", b"leg"])), figures);
+        assert_ne!(of(&take(&[b"arm", b"arm", b"arm\0leg"])), figures);
+    }
+}
+
+type Figure = fn(&mut Season) -> &mut u64;
+
+/// The 64-bit figures that a take adds to, and how much zeros([1, 2, 3, 4, 5, 6]) adds.
+const ADDED: [(Figure, u64); 10] = [
+    (|season| &mut season.bones.total, 1),
+    (|season| &mut season.morphs.total, 2),
+    (|season| &mut season.cameras.total, 3),
+    (|season| &mut season.lights.total, 4),
+    (|season| &mut season.self_shadows.total, 5),
+    (|season| &mut season.properties.total, 6),
+    (|season| &mut season.records, 21),
+    (|season| &mut season.bone_names, 1),
+    (|season| &mut season.morph_names, 1),
+    (|season| &mut season.accepted, 1),
+];
+
+#[test]
+fn figures_at_their_largest() {
+    let (take, none) = (zeros([1, 2, 3, 4, 5, 6]), counts(&[0; 6]));
+    let before = season_of([&zeros([9; 6])[..]]);
+    for (i, (figure, added)) in ADDED.into_iter().enumerate() {
+        for most in [u64::MAX, u64::MAX - added + 1] {
+            let mut full = before;
+            *figure(&mut full) = most;
+            let mut season = full;
+            assert!(!season.add(&take), "figure {i}");
+            assert_eq!(season, Season { refused: 1, ..full }, "figure {i}");
+        }
+        let mut season = before;
+        *figure(&mut season) = u64::MAX - added;
+        assert!(season.add(&take), "figure {i}");
+        assert_eq!(*figure(&mut season), u64::MAX);
+        assert_eq!((season.bones.smallest, season.properties.smallest, season.refused), (1, 6, 0));
+        // a take without records adds to the last alone
+        assert_eq!(season.add(&none), i != 9, "figure {i}");
+    }
+    // the number of refused takes stops, and is no reason to refuse one
+    let mut season = Season { refused: u64::MAX, ..before };
+    assert!(!season.add(b"no take") && !season.add(&take[..99]));
+    assert_eq!(season, Season { refused: u64::MAX, ..before });
+    assert!(season.add(&take));
+    assert_eq!((season.accepted, season.refused), (2, u64::MAX));
+    let mut season = Season { refused: u64::MAX, accepted: u64::MAX, ..before };
+    assert!(!season.add(&take));
+    assert_eq!(season, Season { refused: u64::MAX, accepted: u64::MAX, ..before });
+}
+
+/// Whatever stands there while no take is accepted, the first one sets smallest and largest.
+#[test]
+fn the_first_take_of_a_season() {
+    for (smallest, largest) in [(0, u32::MAX), (u32::MAX, 0), (7, 7)] {
+        let figures = |total| Figures { total, smallest, largest };
+        let before = Season {
+            bones: figures(100),
+            morphs: figures(200),
+            cameras: figures(300),
+            lights: figures(400),
+            self_shadows: figures(500),
+            properties: figures(600),
+            ..Season::new()
+        };
+        let mut season = before;
+        assert!(!season.add(b"no take"));
+        assert_eq!(season, Season { refused: 1, ..before });
+        assert!(season.add(&zeros([1, 2, 3, 4, 5, 6])));
+        let of_one = |total, count| Figures { total, smallest: count, largest: count };
+        let expected = Season {
+            bones: of_one(101, 1),
+            morphs: of_one(202, 2),
+            cameras: of_one(303, 3),
+            lights: of_one(404, 4),
+            self_shadows: of_one(505, 5),
+            properties: of_one(606, 6),
+            records: 21,
+            bone_names: 1,
+            morph_names: 1,
+            accepted: 1,
+            refused: 1,
+        };
+        assert_eq!(season, expected);
+    }
+}
+
+#[test]
+fn means() {
+    for (records, accepted, quotient, remainder) in [
+        (0, 0, 0, 0),
+        (7, 0, 0, 0),
+        (u64::MAX, 0, 0, 0),
+        (0, 3, 0, 0),
+        (20, 3, 6, 2),
+        (2, 3, 0, 2),
+        (u64::MAX, 1, u64::MAX, 0),
+        (u64::MAX, 2, u64::MAX / 2, 1),
+        (u64::MAX, u64::MAX, 1, 0),
+        (u64::MAX - 1, u64::MAX, 0, u64::MAX - 1),
+    ] {
+        let junk = Figures { total: 5, smallest: 6, largest: 7 };
+        let season = Season { records, accepted, bones: junk, bone_names: 8, refused: 9, ..Season::new() };
+        assert_eq!(season.mean(), Mean { quotient, remainder }, "{records} by {accepted}");
     }
 }
 

@@ -13,10 +13,12 @@ use Rattle.vmd_format.specs.Opening.{Scan, Opening}
 use Rattle.vmd_format.specs.Computed.{computed}
 use Rattle.vmd_places.specs.Meaning.{ik-place}
 use Rattle.vmd_places.specs.Parts.{file-part, part-in}
-use Rattle.vmd_c.specs.Meaning.{status, slot-after, counts-of, places-of, totals-of, extent-at, scan-at, bone-words, morph-words, camera-words, light-values, light-words, self-shadow-words, property-words, part-words, joined-words, size-words, file-of}
+use Rattle.vmd_c.specs.Meaning.{status, slot-after, counts-of, places-of, totals-of, extent-at, scan-at, bone-words, morph-words, camera-words, light-values, light-words, self-shadow-words, property-words, part-words, joined-words, size-words, file-of, season-counts, season-figures, section-at, season-at, mean-words}
 use Rattle.vmd_base.specs.declared.VmdRefusal.the-variants.{PartsDoNotFit}
 use Rattle.vmd_split.specs.Meaning.{split-is}
 use Rattle.vmd_split.specs.declared.VmdSplit.the-variants.{Refused, Tables}
+use Rattle.vmd_season.specs.Season.{Season}
+use Rattle.vmd_season.specs.Meaning.{season-is, take-is, mean-is}
 
 -- 0, or the number; the new value, or the old
 pub returned :
@@ -116,3 +118,46 @@ pub table-sizes :
     × (size-words (record { bone-names = 1; bone-name-bytes = 2; morph-names = 3; morph-name-bytes = 4 }) ≡ 1 ∷ 2 ∷ 3 ∷ 4 ∷ [])
 unfolding size-words
 table-sizes = (refl, refl, refl)
+
+-- ---- a season
+
+abbrev a-season : Season
+a-season = record {
+  bones = record { total = 1; smallest = 21; largest = 31 };
+  morphs = record { total = 2; smallest = 22; largest = 32 };
+  cameras = record { total = 3; smallest = 23; largest = 33 };
+  lights = record { total = 4; smallest = 24; largest = 34 };
+  self-shadows = record { total = 5; smallest = 25; largest = 35 };
+  properties = record { total = 6; smallest = 26; largest = 36 };
+  records = 7;
+  bone-names = 8;
+  morph-names = 9;
+  accepted = 10;
+  refused = 11;
+}
+
+pub season-slots :
+    (season-counts a-season ≡ 21 ∷ 22 ∷ 23 ∷ 24 ∷ 25 ∷ 26 ∷ 31 ∷ 32 ∷ 33 ∷ 34 ∷ 35 ∷ 36 ∷ [])
+    × (season-figures a-season ≡ 1 ∷ 2 ∷ 3 ∷ 4 ∷ 5 ∷ 6 ∷ 7 ∷ 8 ∷ 9 ∷ 10 ∷ 11 ∷ [])
+    × (season-at (21 ∷ 22 ∷ 23 ∷ 24 ∷ 25 ∷ 26 ∷ 31 ∷ 32 ∷ 33 ∷ 34 ∷ 35 ∷ 36 ∷ []) (1 ∷ 2 ∷ 3 ∷ 4 ∷ 5 ∷ 6 ∷ 7 ∷ 8 ∷ 9 ∷ 10 ∷ 11 ∷ []) ≡ a-season)
+    × (mean-words (record { quotient = 1; remainder = 2 }) ≡ 1 ∷ 2 ∷ [])
+    × (mean-is (record { quotient = 1; remainder = 2 }) ≡ record { quotient = 1; remainder = 2 })
+unfolding season-counts season-figures section-at season-at mean-words
+season-slots = (refl, refl, refl, refl, refl)
+
+-- the season of the code's types
+pub a-season-of-code :
+    season-is (record {
+      bones = record { total = 1; smallest = 21; largest = 31 };
+      morphs = record { total = 2; smallest = 22; largest = 32 };
+      cameras = record { total = 3; smallest = 23; largest = 33 };
+      lights = record { total = 4; smallest = 24; largest = 34 };
+      «self_shadows» = record { total = 5; smallest = 25; largest = 35 };
+      properties = record { total = 6; smallest = 26; largest = 36 };
+      records = 7;
+      «bone_names» = 8;
+      «morph_names» = 9;
+      accepted = 10;
+      refused = 11;
+    }) ≡ a-season
+a-season-of-code = refl

@@ -4,3 +4,4 @@ pub mod Own
 pub mod Examples
 pub mod ReadBack
 pub mod Rebuilt
+pub mod Seasons

@@ -13,6 +13,7 @@ use Rattle.vmd_format.specs.Opening.{Extent, Scan, Opening}
 use Rattle.vmd_format.specs.Fetch.{PropertyHead}
 use Rattle.vmd_base.specs.declared.VmdPart.{VmdPart}
 use Rattle.vmd_split.specs.Split.{TableSizes}
+use Rattle.vmd_season.specs.Season.{SectionFigures, Season, Mean}
 
 -- what a call returns: 0, or the number of the refusal
 unfoldable pub status : {A : Type 0} → Answer A → ℕ
@@ -107,3 +108,40 @@ size-words t = t .bone-names ∷ t .bone-name-bytes ∷ t .morph-names ∷ t .mo
 unfoldable pub file-of : List ℕ → List ℕ → ℕ → List ℕ
 file-of s t zero = s
 file-of s t (suc k) = t
+
+-- ---- a season
+
+-- the smallest count of each section, then the largest
+unfoldable pub season-counts : Season → List ℕ
+season-counts z =
+    z .bones .smallest ∷ z .morphs .smallest ∷ z .cameras .smallest ∷ z .lights .smallest ∷ z .self-shadows .smallest ∷ z .properties .smallest
+    ∷ z .bones .largest ∷ z .morphs .largest ∷ z .cameras .largest ∷ z .lights .largest ∷ z .self-shadows .largest ∷ z .properties .largest ∷ []
+
+-- the total of each section, and of all; the two sums of names; takes accepted and refused
+unfoldable pub season-figures : Season → List ℕ
+season-figures z =
+    z .bones .total ∷ z .morphs .total ∷ z .cameras .total ∷ z .lights .total ∷ z .self-shadows .total ∷ z .properties .total ∷ z .records
+    ∷ z .bone-names ∷ z .morph-names ∷ z .accepted ∷ z .refused ∷ []
+
+-- the section of an index
+unfoldable pub section-at : List ℕ → List ℕ → ℕ → SectionFigures
+section-at counts figures k = record { total = getD figures k 0; smallest = getD counts k 0; largest = getD counts (6 + k) 0 }
+
+-- the season that counts and figures say
+unfoldable pub season-at : List ℕ → List ℕ → Season
+season-at counts figures = record {
+  bones = section-at counts figures 0;
+  morphs = section-at counts figures 1;
+  cameras = section-at counts figures 2;
+  lights = section-at counts figures 3;
+  self-shadows = section-at counts figures 4;
+  properties = section-at counts figures 5;
+  records = getD figures 6 0;
+  bone-names = getD figures 7 0;
+  morph-names = getD figures 8 0;
+  accepted = getD figures 9 0;
+  refused = getD figures 10 0;
+}
+
+unfoldable pub mean-words : Mean → List ℕ
+mean-words m = m .quotient ∷ m .remainder ∷ []

@@ -24,12 +24,12 @@ use Rattle.vmd_bytes.proofs.Floats.{finite-below, other-pattern}
 use Rattle.vmd_check_columns.specs.Meaning.{bits}
 use Rattle.vmd_parts.specs.Building.{Slices, parts, built-answer, built-output, Floats, Typed}
 use Rattle.vmd_export.specs.Saved.{exported-answer, exported-output}
-use Rattle.vmd_keys.specs.Names.{distinct}
+use Rattle.vmd_keys.specs.Names.{distinct, bone-names-of, morph-names-of}
 use Rattle.vmd_tables.specs.Tables.{joined, table-of-names, index-of, name-table, name-indices}
 use Rattle.vmd_count.specs.DistinctLaws.{all-then, all-distinct, distinct-short}
 use Rattle.vmd_tables.specs.TableMeaning.{table-ends-below, index-most}
 use Rattle.vmd_split.specs.Columns.{all-of, below-write, below-map, below-all, all-write}
-use Rattle.vmd_split.specs.Split.{bone-names-of, morph-names-of, translation, rotation, parts-of-take, split, parts-left}
+use Rattle.vmd_split.specs.Split.{translation, rotation, parts-of-take, split, parts-left}
 use Rattle.vmd_split.specs.Passing.{Finite, BoneFit, BuilderPasses}
 use Rattle.vmd_split.specs.Given.{with-model, fronts, split-gives, left-parts}
 use Rattle.vmd_split.specs.Rebuilding.{names-fit, rebuilt}

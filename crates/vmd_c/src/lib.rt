@@ -1,4 +1,4 @@
-// The library for C, thin over the calls of vmd_reader, vmd_export and vmd_parts. include/vmd.h says how C calls it. Every
+// The library for C, thin over the calls of vmd_reader, vmd_export, vmd_parts, vmd_split and vmd_season. include/vmd.h says how C calls it. Every
 // function states what it returns, and every slot and buffer at exit, by equations with definitions.
 use vmd_base::VmdPart;
 use vmd_base::VmdSection;
@@ -14,8 +14,11 @@ use vmd_reader::VmdOpening;
 use vmd_reader::VmdPropertyAnswer;
 use vmd_reader::VmdSelfShadowAnswer;
 use vmd_scan::VmdSections;
+use vmd_season::VmdSeason;
+use vmd_season::VmdSectionFigures;
 use vmd_split::VmdSplit;
 ghost use mathlib.Core.Path.{_≡_};
+ghost use mathlib.Core.List.{[]};
 ghost use Prim.Native.Nat.{_*_};
 ghost use lib.ListN.{length};
 ghost use Rattle.vmd_format.specs.Bytes.{flag-byte};
@@ -32,9 +35,11 @@ ghost use Rattle.vmd_reader.specs.Meaning.{opening-is};
 ghost use Rattle.vmd_output.specs.Meaning.{written-answer};
 ghost use Rattle.vmd_export.specs.Saved.{exported-answer, exported-output, joined-answer, joined-output, export-size, join-size};
 ghost use Rattle.vmd_checks.specs.Meaning.{parts-of};
-ghost use Rattle.vmd_c.specs.Meaning.{status, slot-after, counts-of, places-of, totals-of, scan-at, bone-words, morph-words, camera-words, light-values, light-words, self-shadow-words, property-words, part-words, joined-words, size-words};
+ghost use Rattle.vmd_c.specs.Meaning.{status, slot-after, counts-of, places-of, totals-of, scan-at, bone-words, morph-words, camera-words, light-values, light-words, self-shadow-words, property-words, part-words, joined-words, size-words, season-counts, season-figures, season-at, mean-words};
 ghost use Rattle.vmd_split.specs.Split.{split, split-answer, split-sizes, parts-left, buffers};
 ghost use Rattle.vmd_split.specs.Meaning.{split-is};
+ghost use Rattle.vmd_season.specs.Season.{no-takes, with-file, mean};
+ghost use Rattle.vmd_season.specs.Meaning.{season-is};
 
 fn wide(b: u8) -> u32
     ensures { λ r. ⌜ r ≡ b ⌝ }
@@ -694,4 +699,107 @@ pub extern "C" fn vmd_split_animation_into_parts(
         morph_weights,
     );
     report_sizes(answer, sizes)
+}
+
+// ---- season figures
+
+// The season that counts and figures say.
+fn season_of(counts: &[u32; 12], figures: &[u64; 11]) -> VmdSeason
+    ensures { λ r. ⌜ season-is r ≡ season-at (now (counts .entry)) (now (figures .entry)) ⌝ }
+{
+    VmdSeason {
+        bones: VmdSectionFigures {
+            total: figures[0],
+            smallest: counts[0],
+            largest: counts[6],
+        },
+        morphs: VmdSectionFigures {
+            total: figures[1],
+            smallest: counts[1],
+            largest: counts[7],
+        },
+        cameras: VmdSectionFigures {
+            total: figures[2],
+            smallest: counts[2],
+            largest: counts[8],
+        },
+        lights: VmdSectionFigures {
+            total: figures[3],
+            smallest: counts[3],
+            largest: counts[9],
+        },
+        self_shadows: VmdSectionFigures {
+            total: figures[4],
+            smallest: counts[4],
+            largest: counts[10],
+        },
+        properties: VmdSectionFigures {
+            total: figures[5],
+            smallest: counts[5],
+            largest: counts[11],
+        },
+        records: figures[6],
+        bone_names: figures[7],
+        morph_names: figures[8],
+        accepted: figures[9],
+        refused: figures[10],
+    }
+}
+
+fn report_season(z: VmdSeason, counts: &mut [u32; 12], figures: &mut [u64; 11])
+    ensures { λ _. ⌜ (now (counts .exit) ≡ season-counts (season-is z)) × (now (figures .exit) ≡ season-figures (season-is z)) ⌝ }
+{
+    *counts = [
+        z.bones.smallest,
+        z.morphs.smallest,
+        z.cameras.smallest,
+        z.lights.smallest,
+        z.self_shadows.smallest,
+        z.properties.smallest,
+        z.bones.largest,
+        z.morphs.largest,
+        z.cameras.largest,
+        z.lights.largest,
+        z.self_shadows.largest,
+        z.properties.largest,
+    ];
+    *figures = [
+        z.bones.total,
+        z.morphs.total,
+        z.cameras.total,
+        z.lights.total,
+        z.self_shadows.total,
+        z.properties.total,
+        z.records,
+        z.bone_names,
+        z.morph_names,
+        z.accepted,
+        z.refused,
+    ];
+}
+
+#[no_mangle]
+pub extern "C" fn vmd_season_none(counts: &mut [u32; 12], figures: &mut [u64; 11])
+    ensures { λ _. ⌜ (now (counts .exit) ≡ season-counts no-takes) × (now (figures .exit) ≡ season-figures no-takes) ⌝ }
+{
+    report_season(VmdSeason::none(), counts, figures);
+}
+
+#[no_mangle]
+pub extern "C" fn vmd_season_add(file: &[u8], counts: &mut [u32; 12], figures: &mut [u64; 11])
+    ensures { λ _. ⌜ (let next = with-file lenient (season-at (now (counts .entry)) (now (figures .entry))) (now (file .entry)) in
+        (now (counts .exit) ≡ season-counts next) × (now (figures .exit) ≡ season-figures next)) ⌝ }
+{
+    let next = season_of(counts, figures).add(file);
+    report_season(next, counts, figures);
+}
+
+// The mean looks at no counts.
+#[no_mangle]
+pub extern "C" fn vmd_season_mean(figures: &[u64; 11], numbers: &mut [u64; 2])
+    ensures { λ _. ⌜ now (numbers .exit) ≡ mean-words (mean (season-at [] (now (figures .entry)))) ⌝ }
+{
+    let none = [0u32; 12];
+    let m = season_of(&none, figures).mean();
+    *numbers = [m.quotient, m.remainder];
 }

@@ -3,3 +3,4 @@ pub mod Keys
 pub mod Heap
 pub mod KeyLaws
 pub mod HeapLaws
+pub mod NameLaws

@@ -5,7 +5,7 @@ use mathlib.Core.Bool.{Bool, true, false, not}
 use mathlib.Core.List.{List, [], _∷_, map}
 use lib.ListN.{take, drop}
 use Rattle.vmd_format.specs.Bytes.{before-zero}
-use Rattle.vmd_format.specs.Take.{same}
+use Rattle.vmd_format.specs.Take.{Take, same}
 use Rattle.vmd_format.specs.Parts.{upto}
 
 -- the name of the bone or morph at a place: a field of 15 bytes up to its first zero
@@ -15,6 +15,13 @@ name-in s at = before-zero (take 15 (drop at s))
 -- the names of n records of one size from a place on, in file order
 unfoldable pub names-in : List ℕ → ℕ → ℕ → ℕ → List (List ℕ)
 names-in s at size n = map (λ i. name-in s (at + size * i)) (upto 0 n)
+
+-- the names of a take's bones, and of its morphs, in file order
+unfoldable pub bone-names-of : Take → List (List ℕ)
+bone-names-of t = map (λ b. b .name) (t .bones)
+
+unfoldable pub morph-names-of : Take → List (List ℕ)
+morph-names-of t = map (λ m. m .name) (t .morphs)
 
 -- those that pass a test, in their order
 unfoldable pub keep-if : {A : Type 0} → Bool → A → List A → List A

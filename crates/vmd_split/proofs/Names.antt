@@ -1,22 +1,16 @@
--- The names of a section, by places and as its records are read, and how long their table can be. Assumes nothing.
+-- How long the table of a section's names can be. Assumes nothing.
 use Prim.Native.Nat.{ℕ, zero, suc, _+_, _*_, _≤_}
-use mathlib.Core.Path.{_≡_, refl, ap, ap₂, _∙_}
+use mathlib.Core.Path.{_≡_}
 use mathlib.Core.Bool.{true, _&&_}
 use mathlib.Core.List.{List, [], _∷_, map}
 use native.Mathlib.Omega.{arith}
-use native.Mathlib.Nat.{mul-suc}
 use borrow.Author.Tests.{leb-true, le-leb}
-use lib.ListN.{length, length-append, take, drop}
-use lib.Seq.{drop-drop}
+use lib.ListN.{length, length-append}
 use lib.Dec.{leb}
-use Rattle.vmd_format.specs.Bytes.{before-zero}
 use Rattle.vmd_format.specs.BytesLaws.{Bytes}
-use Rattle.vmd_format.specs.Layout.{Layout, number, name, raw, _⊗_, as-record}
-use Rattle.vmd_format.specs.Read.{table, write-all}
+use Rattle.vmd_format.specs.Read.{write-all}
 use Rattle.vmd_format.specs.ReadLaws.{All}
-use Rattle.vmd_format.specs.Records.{bone, morph}
 use Rattle.vmd_format.specs.Parts.{upto}
-use Rattle.vmd_format.specs.SizedLaws.{Sized, bone-sized, morph-sized}
 use Rattle.vmd_keys.specs.Names.{name-in, names-in, distinct}
 use Rattle.vmd_keys.specs.KeyLaws.{name-short}
 use Rattle.vmd_count.specs.DistinctLaws.{all-distinct, distinct-short}
@@ -25,34 +19,6 @@ use Rattle.vmd_tables.specs.TableLaws.{names-count}
 use Rattle.vmd_tables.specs.TableMeaning.{table-count}
 use Rattle.vmd_split.specs.Stages.{table-room}
 use Rattle.vmd_split.proofs.Room.{both}
-
--- ---- by places
-
-named-table : {A : Type 0} {K : Layout A} {w : ℕ} → Sized K w → (nm : A → List ℕ) → ((s : List ℕ) → nm (K .decode s) ≡ before-zero (take 15 s))
-    → (s : List ℕ) (at k m : ℕ) → map nm (table K m (drop (at + w * k) s)) ≡ map (λ i. name-in s (at + w * i)) (upto k m)
-unfolding table upto name-in
-named-table z nm h s at k zero = refl
-named-table {K = K} {w} z nm h s at k (suc m) =
-    let e : at + w * k + w ≡ at + w * suc k = omega (arith, mul-suc w k) in
-    let d : drop (K .size) (drop (at + w * k) s) ≡ drop (at + w * suc k) s = rw (z .size, drop-drop, e) in
-    ap₂ _∷_ (h (drop (at + w * k) s)) (ap (λ (t : List ℕ). map nm (table K m t)) d ∙ named-table z nm h s at (suc k) m)
-
-section-names : {A : Type 0} {K : Layout A} {w : ℕ} → Sized K w → (nm : A → List ℕ) → ((s : List ℕ) → nm (K .decode s) ≡ before-zero (take 15 s))
-    → (s : List ℕ) (at n : ℕ) → map nm (table K n (drop at s)) ≡ names-in s at w n
-unfolding names-in
-section-names {w = w} k nm h s at n =
-    let z : at + w * 0 ≡ at = omega arith in
-    rw z at (named-table k nm h s at 0 n)
-
-pub bone-names : (s : List ℕ) (at n : ℕ) → map (λ b. b .name) (table bone n (drop at s)) ≡ names-in s at 111 n
-unfolding bone as-record name number raw _⊗_
-bone-names s at n = section-names bone-sized (λ b. b .name) (λ t. refl) s at n
-
-pub morph-names : (s : List ℕ) (at n : ℕ) → map (λ m. m .name) (table morph n (drop at s)) ≡ names-in s at 23 n
-unfolding morph as-record name number raw _⊗_
-morph-names s at n = section-names morph-sized (λ m. m .name) (λ t. refl) s at n
-
--- ---- how long a table is
 
 all-short : (s : List ℕ) → Bytes s → (at size i n : ℕ) → All (λ d. length d ≤ 15) (map (λ i. name-in s (at + size * i)) (upto i n))
 unfolding upto

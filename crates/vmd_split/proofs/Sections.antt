@@ -9,6 +9,7 @@ use Rattle.vmd_format.specs.Records.{bone, morph}
 use Rattle.vmd_format.specs.Parts.{NameTable}
 use Rattle.vmd_bytes.specs.Slices.{splice, run}
 use Rattle.vmd_keys.specs.Names.{names-in, distinct}
+use Rattle.vmd_keys.specs.NameLaws.{bone-names, morph-names}
 use Rattle.vmd_tables.specs.Tables.{name-table}
 use Rattle.vmd_tables.specs.TableMeaning.{table-count}
 use Rattle.vmd_tables.specs.Leading.{Beyond, Numbered}
@@ -19,7 +20,6 @@ use Rattle.vmd_split.specs.Split.{translation, rotation, over}
 use Rattle.vmd_split.specs.Fitting.{TableFits}
 use Rattle.vmd_split.specs.Stages.{BonesLeft, MorphsLeft}
 use Rattle.vmd_split.proofs.Room.{front}
-use Rattle.vmd_split.proofs.Names.{bone-names, morph-names}
 
 -- ---- room for the table's ends
 

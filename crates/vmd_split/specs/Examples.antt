@@ -12,9 +12,9 @@ use Rattle.vmd_format.specs.Take.{read-take}
 use Rattle.vmd_format.specs.Join.{export-file}
 use Rattle.vmd_format.specs.Parts.{Parts, build}
 use Rattle.vmd_format.specs.Computed.{computed, declines, start, fours, u1, bone-bytes, morph-bytes, camera-bytes, light-bytes, shadow-bytes, ik-bytes}
-use Rattle.vmd_keys.specs.Names.{keep-if, select, distinct}
+use Rattle.vmd_keys.specs.Names.{keep-if, select, distinct, bone-names-of, morph-names-of}
 use Rattle.vmd_tables.specs.Tables.{joined, ends-from, table-of-names, index-if, index-of, name-table, name-indices}
-use Rattle.vmd_split.specs.Split.{bone-names-of, morph-names-of, translation, rotation, parts-of-take, table-within, table-fits, bones-fit, morphs-fit, records-fit, parts-fit, split, TableSizes, table-sizes, split-answer, parts-left, buffers, split-sizes}
+use Rattle.vmd_split.specs.Split.{translation, rotation, parts-of-take, table-within, table-fits, bones-fit, morphs-fit, records-fit, parts-fit, split, TableSizes, table-sizes, split-answer, parts-left, buffers, split-sizes}
 
 -- unfolding this and `computed` unfolds the definitions of parts
 unfoldable parts-computed : Unit {0}

@@ -18,10 +18,10 @@ use Rattle.vmd_format.specs.TakeLaws.{WellFormed}
 use Rattle.vmd_format.specs.Opening.{ik-total}
 use Rattle.vmd_format.specs.Lengths.{property-length}
 use Rattle.vmd_format.specs.Parts.{Parts}
-use Rattle.vmd_keys.specs.Names.{distinct}
+use Rattle.vmd_keys.specs.Names.{distinct, bone-names-of, morph-names-of}
 use Rattle.vmd_tables.specs.Tables.{name-table}
 use Rattle.vmd_tables.specs.TableMeaning.{table-count}
-use Rattle.vmd_split.specs.Split.{bone-names-of, morph-names-of, translation, rotation, parts-of-take, table-within, parts-fit, split, TableSizes, table-sizes, split-answer, parts-left, split-sizes}
+use Rattle.vmd_split.specs.Split.{translation, rotation, parts-of-take, table-within, parts-fit, split, TableSizes, table-sizes, split-answer, parts-left, split-sizes}
 use Rattle.vmd_split.specs.Fitting.{and-says, table-within-says, PartsFit, parts-fit-says}
 use Rattle.vmd_split.specs.Columns.{write-length, records-length}
 use Rattle.vmd_split.specs.PartsMean.{translations-wide, rotations-wide, interpolations-wide, bone-count, morph-count}

@@ -12,10 +12,11 @@ use Rattle.vmd_format.specs.ReadLaws.{All}
 use Rattle.vmd_format.specs.Take.{Take, property}
 use Rattle.vmd_format.specs.TakeLaws.{WellFormed, property-lawful}
 use Rattle.vmd_format.specs.Parts.{names-of, frames, frames-or-none, properties-of, upto, bone-at, morph-at, take-of-parts}
+use Rattle.vmd_keys.specs.Names.{bone-names-of, morph-names-of}
 use Rattle.vmd_tables.specs.Tables.{name-table, name-indices}
 use Rattle.vmd_count.specs.DistinctLaws.{all-then}
 use Rattle.vmd_tables.specs.TableMeaning.{Tabled, tabled, indices-length, index-leads}
-use Rattle.vmd_split.specs.Split.{bone-names-of, morph-names-of, translation, rotation, parts-of-take}
+use Rattle.vmd_split.specs.Split.{translation, rotation, parts-of-take}
 use Rattle.vmd_split.specs.Columns.{all-of, getD-seam, numbered, map-self, Wide, part-there, place-there, first-there, records-back, values-back}
 
 -- ---- names

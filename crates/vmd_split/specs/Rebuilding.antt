@@ -25,11 +25,11 @@ use Rattle.vmd_format.specs.RefusalLaws.{Among, here, there}
 use Rattle.vmd_format.specs.Names.{good}
 use Rattle.vmd_format.specs.Parts.{names-of, take-of-parts, upto, Check, passes, fails, _next_, need, each, no-bytes-over, is-got, whole-parts, name-check, finite, all-finite, camera-check, light-check, self-shadow-check, ik-check, property-check, columns-check, counts-check, bone-check, morph-check, parts-check, built, build}
 use Rattle.vmd_format.specs.PartsLaws.{all-map, next-passes, need-passes, each-passes, build-given}
-use Rattle.vmd_keys.specs.Names.{distinct}
+use Rattle.vmd_keys.specs.Names.{distinct, bone-names-of, morph-names-of}
 use Rattle.vmd_tables.specs.Tables.{name-table, name-indices}
 use Rattle.vmd_count.specs.DistinctLaws.{all-then, all-distinct}
 use Rattle.vmd_tables.specs.TableMeaning.{distinct-all, table-names, table-right-ends, index-in-table}
-use Rattle.vmd_split.specs.Split.{bone-names-of, morph-names-of, translation, rotation, parts-of-take}
+use Rattle.vmd_split.specs.Split.{translation, rotation, parts-of-take}
 use Rattle.vmd_split.specs.Passing.{Good, Finite, CameraFit, LightFit, SelfShadowFit, PropertyFit, BuilderPasses}
 use Rattle.vmd_split.specs.Fitting.{and-says, le-says}
 use Rattle.vmd_split.specs.Columns.{all-front, all-back, getD-seam, numbered, write-length, part-there, records-whole}

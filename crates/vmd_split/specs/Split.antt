@@ -10,15 +10,10 @@ use Rattle.vmd_format.specs.Records.{Bone, camera, light, self-shadow}
 use Rattle.vmd_format.specs.Read.{Manner, write-all}
 use Rattle.vmd_format.specs.Take.{Take, property, read-take}
 use Rattle.vmd_format.specs.Parts.{NameTable, Parts}
+use Rattle.vmd_keys.specs.Names.{bone-names-of, morph-names-of}
 use Rattle.vmd_tables.specs.Tables.{name-table, name-indices}
 
 -- ---- the parts
-
-unfoldable pub bone-names-of : Take → List (List ℕ)
-bone-names-of t = map (λ b. b .name) (t .bones)
-
-unfoldable pub morph-names-of : Take → List (List ℕ)
-morph-names-of t = map (λ m. m .name) (t .morphs)
 
 unfoldable pub translation : Bone → List ℕ
 translation b = b .tx ∷ b .ty ∷ b .tz ∷ []

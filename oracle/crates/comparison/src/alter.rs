@@ -47,9 +47,21 @@ pub enum Alter {
     SplitPerspective,
     SplitIkEnabled,
     SplitInterpolation,
+    SeasonTotal,
+    SeasonRecords,
+    SeasonSmallest,
+    SeasonLargest,
+    SeasonNamesOfRecords,
+    SeasonMorphNames,
+    SeasonAccepted,
+    SeasonInRefusal,
+    SeasonPassed,
+    SeasonRefused,
+    SeasonMean,
+    SeasonNone,
 }
 
-pub const ALTERATIONS: [Alter; 41] = [
+pub const ALTERATIONS: [Alter; 53] = [
     Alter::OpeningRefusal,
     Alter::OpeningCount,
     Alter::OpeningPlace,
@@ -91,6 +103,18 @@ pub const ALTERATIONS: [Alter; 41] = [
     Alter::SplitPerspective,
     Alter::SplitIkEnabled,
     Alter::SplitInterpolation,
+    Alter::SeasonTotal,
+    Alter::SeasonRecords,
+    Alter::SeasonSmallest,
+    Alter::SeasonLargest,
+    Alter::SeasonNamesOfRecords,
+    Alter::SeasonMorphNames,
+    Alter::SeasonAccepted,
+    Alter::SeasonInRefusal,
+    Alter::SeasonPassed,
+    Alter::SeasonRefused,
+    Alter::SeasonMean,
+    Alter::SeasonNone,
 ];
 
 static ALTERED: AtomicUsize = AtomicUsize::new(Alter::Nothing as usize);

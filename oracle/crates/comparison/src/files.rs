@@ -1,8 +1,9 @@
-//! One file through every call of the reader and the exporter, and split into parts.
+//! One file through every call of the reader and the exporter, split into parts, and added to a season.
 
 use crate::check::{check_size, check_written, same, Checked};
 use crate::lent::{Input, Output, Scratch};
 use crate::library::{self, Opening};
+use crate::season::SeasonCheck;
 use crate::split::SplitCheck;
 use mmd_anim_format::vmd::{
     read_header, VmdParsedAnimation, VmdParsedBoneFrame, VmdParsedCameraFrame, VmdParsedLightFrame, VmdParsedMorphFrame,
@@ -23,6 +24,7 @@ pub struct FileCheck {
     pub records: u64,
     pub lights: LightNans,
     pub split: SplitCheck,
+    pub season: SeasonCheck,
 }
 
 /// The call with f32 fields keeps a NaN a NaN, and need not keep its bits.
@@ -57,6 +59,7 @@ impl FileCheck {
         check_size("export size", &exported, |size| library::export_size(file, size))?;
         check_written("export", &exported, &mut self.output, |out, written| library::export_animation(file, out, written))?;
         self.split.check(file, &take, &exported)?;
+        self.season.check(file, take.as_ref().ok())?;
         Ok(take.err().unwrap_or(0))
     }
 

@@ -447,3 +447,63 @@ fn alter_split(answer: u32, p: &mut Lent, sizes: &[u64; 4]) -> u32 {
     }
     answer
 }
+
+// ---- season figures
+
+/// The slots of a season.
+#[derive(Clone, PartialEq, Eq, Debug)]
+pub struct Season {
+    /// The smallest count of each section, then the largest.
+    pub counts: [u32; 12],
+    /// Six totals, records, bone names, morph names, takes accepted, takes refused.
+    pub figures: [u64; 11],
+}
+
+pub fn season_none(season: &mut Season) {
+    unsafe { header::vmd_season_none(&mut season.counts, &mut season.figures) };
+    if altered(Alter::SeasonNone) {
+        season.counts[7] = 1;
+    }
+}
+
+pub fn season_add(file: &[u8], season: &mut Season) {
+    let before = season.clone();
+    unsafe { header::vmd_season_add(pointer(file), file.len(), &mut season.counts, &mut season.figures) };
+    alter_season(file, &before, season);
+}
+
+fn alter_season(file: &[u8], before: &Season, season: &mut Season) {
+    if season.figures[9] == before.figures[9] {
+        if altered(Alter::SeasonInRefusal) {
+            season.counts[2] = 0;
+        } else if altered(Alter::SeasonRefused) {
+            season.figures[10] = before.figures[10].wrapping_add(1);
+        } else if altered(Alter::SeasonPassed) && original::read(file).is_ok() {
+            season.figures[9] = before.figures[9].saturating_add(1);
+        }
+    } else if altered(Alter::SeasonTotal) {
+        season.figures[4] = before.figures[4];
+    } else if altered(Alter::SeasonRecords) {
+        season.figures[6] -= season.figures[5] - before.figures[5];
+    } else if altered(Alter::SeasonSmallest) {
+        season.counts[0] = season.counts[0].min(before.counts[0]);
+    } else if altered(Alter::SeasonLargest) {
+        season.counts[11] = season.counts[11].max(before.counts[11]);
+    } else if altered(Alter::SeasonNamesOfRecords) {
+        season.figures[7] = before.figures[7].wrapping_add(season.figures[0] - before.figures[0]);
+    } else if altered(Alter::SeasonMorphNames) {
+        season.figures[8] = before.figures[8].max(season.figures[8] - before.figures[8]);
+    } else if altered(Alter::SeasonAccepted) {
+        season.figures[9] = before.figures[9];
+    }
+}
+
+/// The quotient and the remainder.
+pub fn season_mean(figures: &[u64; 11]) -> [u64; 2] {
+    let mut mean = [u64::MAX; 2];
+    unsafe { header::vmd_season_mean(figures, &mut mean) };
+    if altered(Alter::SeasonMean) && figures[9] > 0 {
+        mean[0] = figures[6] / figures[9].saturating_add(figures[10]);
+    }
+    mean
+}

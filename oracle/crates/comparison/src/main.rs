@@ -14,6 +14,7 @@ mod library;
 mod name_test;
 mod parts;
 mod runs;
+mod season;
 mod split;
 mod tally;
 
@@ -52,6 +53,7 @@ fn compare(cases: u64, seed: u64) -> ExitCode {
     files.print();
     print_lights(&file_check);
     print_splits(&file_check.split);
+    print_seasons(&file_check.season);
     let joins = timed("joins", || runs::joins(cases / 10, seed));
     joins.print();
     let (parts, parts_check) = timed("parts", || runs::parts(cases, seed));
@@ -93,6 +95,12 @@ fn print_splits(check: &split::SplitCheck) {
     let refused = (1..14).filter(|&number| check.not_built[number] > 0);
     let refused: Vec<String> = refused.map(|number| format!("{} with {number}", check.not_built[number])).collect();
     println!("    it refuses {}", if refused.is_empty() { "none".to_owned() } else { refused.join(", ") });
+}
+
+fn print_seasons(check: &season::SeasonCheck) {
+    let (lists, longest, accepted, refused) = (check.lists, season::LONGEST, check.accepted, check.refused);
+    println!("  season figures of {lists} lists of up to {longest} files: {accepted} accepted and {refused} refused,");
+    println!("    and {} with which a figure would pass 64 bits", check.passed);
 }
 
 fn print_outside(tally: &parts::OutsideTally) {

@@ -46,7 +46,8 @@ fn shown_file(file: &[u8]) -> String {
 pub fn files(cases: u64, seed: u64) -> (Tally, FileCheck) {
     let fixed = [DOCUMENT_01, EVERY_PREFIX, EVERY_CHANGE, LARGE_COUNTS, MANY_NAMES];
     let labels: Vec<&str> = fixed.into_iter().chain(FILE_KINDS.map(FileKind::label)).chain([FEW_NAMES]).collect();
-    let (mut tally, mut check) = (Tally::new("Files: opening, records, names, export, parts", &labels), FileCheck::default());
+    let title = "Files: opening, records, names, export, parts, season figures";
+    let (mut tally, mut check) = (Tally::new(title, &labels), FileCheck::default());
     for (label, file) in fixed_files(seed) {
         tally.count(label, check.check(&file), || shown_file(&file));
     }

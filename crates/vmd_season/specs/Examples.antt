@@ -1,0 +1,143 @@
+-- Season figures of files that are written out, computed: another number for every figure, each limit of 64 bits, and two files
+-- that differ only where no figure looks.
+use Prim.Native.Nat.{ℕ, zero, suc, _+_, _-_}
+use mathlib.Core.Path.{_≡_, refl}
+use mathlib.Core.Bool.{Bool, true, false, not, _&&_}
+use mathlib.Core.List.{List, [], _∷_, _++_}
+use lib.ListN.{replicate}
+use lib.Dec.{T, eqb}
+use Rattle.vmd_format.specs.Read.{lenient}
+use Rattle.vmd_format.specs.Computed.{computed, text, start, fours, u0, u1, bone-bytes, morph-bytes, camera-bytes, light-bytes, shadow-bytes, ik-bytes}
+use Rattle.vmd_keys.specs.Names.{bone-names-of, morph-names-of, keep-if, select, distinct}
+use Rattle.vmd_season.specs.Season.{SectionFigures, Season, no-section-figures, no-takes, TakeFigures, figures-of, records-of, largest-figure, totals-fit, take-fits, with-count, with-take, with-refused, taken-if, with-answer, with-file, season-from, season, mean-if, mean}
+use Rattle.vmd_season.specs.Differ.{names, names-and-interpolation, SameRecords, SameFrames, SameSections, DifferOnly}
+
+-- unfolding this and `computed` unfolds the definitions of the figures
+unfoldable figures-computed : Unit {0}
+unfolding bone-names-of morph-names-of keep-if select distinct no-section-figures no-takes figures-of records-of largest-figure totals-fit take-fits with-count with-take with-refused taken-if with-answer with-file season-from season mean-if mean
+figures-computed = tt
+
+-- ---- a list of three files
+
+-- bones "A", "B", "A", with bytes after their names' ends; morphs "B" twice; one camera, four lights, five self-shadows
+abbrev first : List ℕ
+first =
+    start ++ fours (3 ∷ []) ++ bone-bytes 65 1 9 ++ bone-bytes 66 2 8 ++ bone-bytes 65 3 7 ++ fours (2 ∷ []) ++ morph-bytes 66 1 6 ++ morph-bytes 66 2 5
+    ++ u1 ++ camera-bytes 4 0 ++ fours (4 ∷ []) ++ light-bytes 1 ++ light-bytes 2 ++ light-bytes 3 ++ light-bytes 4
+    ++ fours (5 ∷ []) ++ shadow-bytes 1 0 ++ shadow-bytes 2 0 ++ shadow-bytes 3 0 ++ shadow-bytes 4 0 ++ shadow-bytes 5 0
+
+-- a bone "A"; morphs "A", "", "B" and "A"; two cameras, no lights, a self-shadow; three property frames, one with an IK state
+abbrev second : List ℕ
+second =
+    start ++ u1 ++ bone-bytes 65 0 1 ++ fours (4 ∷ []) ++ morph-bytes 65 1 1 ++ morph-bytes 0 0 1 ++ morph-bytes 66 1 1 ++ morph-bytes 65 2 2
+    ++ fours (2 ∷ []) ++ camera-bytes 1 0 ++ camera-bytes 2 0 ++ u0 ++ u1 ++ shadow-bytes 1 0
+    ++ fours (3 ∷ []) ++ fours (1 ∷ []) ++ (1 ∷ []) ++ u1 ++ ik-bytes 69 0 1 ++ fours (2 ∷ []) ++ (1 ∷ []) ++ u0 ++ fours (3 ∷ []) ++ (1 ∷ []) ++ u0
+
+-- `start` alone is refused, and only that is counted of it
+pub season-told :
+    season lenient (first ∷ start ∷ second ∷ [])
+    ≡ record {
+      bones = record { total = 4; smallest = 1; largest = 3 };
+      morphs = record { total = 6; smallest = 2; largest = 4 };
+      cameras = record { total = 3; smallest = 1; largest = 2 };
+      lights = record { total = 4; smallest = 0; largest = 4 };
+      self-shadows = record { total = 6; smallest = 1; largest = 5 };
+      properties = record { total = 3; smallest = 0; largest = 3 };
+      records = 26;
+      bone-names = 3;
+      morph-names = 4;
+      accepted = 2;
+      refused = 1;
+    }
+unfolding computed figures-computed
+season-told = refl
+
+-- the mean is over accepted takes alone
+pub mean-told :
+    (mean (season lenient (first ∷ start ∷ second ∷ [])) ≡ record { quotient = 13; remainder = 0 })
+    × (mean (season lenient (start ∷ [])) ≡ record { quotient = 0; remainder = 0 })
+    × (mean (record { bones = no-section-figures; morphs = no-section-figures; cameras = no-section-figures; lights = no-section-figures; self-shadows = no-section-figures; properties = no-section-figures; records = 27; bone-names = 1; morph-names = 2; accepted = 4; refused = 5 }) ≡ record { quotient = 6; remainder = 3 })
+unfolding computed figures-computed
+mean-told = (refl, refl, refl)
+
+-- ---- the limits
+
+-- a number where two agree, else 0
+abbrev where-same : Bool → ℕ → ℕ
+where-same true n = n
+where-same false n = 0
+
+-- figure i of the ten that must not pass 64 bits is n, and the others are 0; smallest is 7 and largest 2, which no list gives
+abbrev at-figure : ℕ → ℕ → Season
+at-figure i n =
+    let section : ℕ → SectionFigures = λ j. record { total = where-same (eqb i j) n; smallest = 7; largest = 2 } in record {
+      bones = section 0;
+      morphs = section 1;
+      cameras = section 2;
+      lights = section 3;
+      self-shadows = section 4;
+      properties = section 5;
+      records = where-same (eqb i 6) n;
+      bone-names = where-same (eqb i 7) n;
+      morph-names = where-same (eqb i 8) n;
+      accepted = where-same (eqb i 9) n;
+      refused = 18446744073709551615;
+    }
+
+-- what a take adds that has one of each
+abbrev ones : TakeFigures
+ones = record { bones = 1; morphs = 1; cameras = 1; lights = 1; self-shadows = 1; properties = 1; bone-names = 1; morph-names = 1 }
+
+-- how many it adds to figure i
+abbrev added : Bool → ℕ
+added true = 6
+added false = 1
+
+abbrev every : ℕ → (ℕ → Bool) → Bool
+every zero f = true
+every (suc n) f = f n && every n f
+
+-- each figure can reach 18,446,744,073,709,551,615 and cannot pass it
+pub limits-told :
+    T (every 10 (λ i. take-fits (at-figure i (18446744073709551615 - added (eqb i 6))) ones))
+    × T (every 10 (λ i. not (take-fits (at-figure i (18446744073709551616 - added (eqb i 6))) ones)))
+unfolding figures-computed
+limits-told = (tt, tt)
+
+-- "the refused number stops at its largest value"
+pub stops-told : with-refused (at-figure 0 5) ≡ at-figure 0 5
+unfolding figures-computed
+stops-told = refl
+
+-- with none accepted the first take sets smallest and largest, whatever stood there; with some it does not
+pub first-told :
+    (with-take (at-figure 0 5) ones .bones ≡ record { total = 6; smallest = 1; largest = 1 })
+    × (with-take (at-figure 9 5) ones .bones ≡ record { total = 1; smallest = 1; largest = 2 })
+unfolding figures-computed
+first-told = (refl, refl)
+
+-- ---- files that differ
+
+-- a model name, a bone, a morph, a camera and an IK state, with bytes j after the names' ends and i for interpolation
+abbrev posed : ℕ → ℕ → List ℕ
+posed j i =
+    text ++ u0 ++ (77 ∷ 0 ∷ replicate 18 j) ++ u1 ++ (65 ∷ 0 ∷ replicate 13 j) ++ fours (1 ∷ 2 ∷ 3 ∷ 4 ∷ 5 ∷ 6 ∷ 7 ∷ 8 ∷ []) ++ replicate 64 i
+    ++ u1 ++ morph-bytes 66 j 6 ++ u1 ++ fours (1 ∷ 2 ∷ 3 ∷ 4 ∷ 5 ∷ 6 ∷ 7 ∷ 8 ∷ []) ++ replicate 24 i ++ fours (9 ∷ []) ++ (0 ∷ [])
+    ++ u0 ++ u0 ++ u1 ++ fours (9 ∷ []) ++ (1 ∷ []) ++ u1 ++ ik-bytes 69 j 1
+
+pub differ-told : DifferOnly names (posed 1 5) (posed 2 5) × DifferOnly names-and-interpolation (posed 1 5) (posed 2 6)
+unfolding computed SameRecords SameFrames SameSections
+differ-told = (
+  record {
+    long = refl;
+    magic = refl;
+    model = (refl, refl);
+    sections = (refl, (((refl, refl), (refl, (refl, tt))), tt), (refl, (((refl, refl), (refl, tt)), tt), (refl, ((refl, (refl, (refl, tt))), tt), (refl, tt, (refl, tt, (refl, (refl, (((refl, refl), (refl, tt)), tt), refl)))))));
+  },
+  record {
+    long = refl;
+    magic = refl;
+    model = (refl, refl);
+    sections = (refl, (((refl, refl), (refl, (refl, tt))), tt), (refl, (((refl, refl), (refl, tt)), tt), (refl, ((refl, (refl, (refl, tt))), tt), (refl, tt, (refl, tt, (refl, (refl, (((refl, refl), (refl, tt)), tt), refl)))))));
+  },
+)
