@@ -56,14 +56,29 @@ enum {
     VMD_IK_STATE_SIZE = 21
 };
 
-/* The sections' indices in counts and places. */
+/*
+ * Indices. They are one enum, since a section's index is added to some of those of a season, and C++ warns of sums of two.
+ */
 enum {
+    /* the sections' in counts and places */
     VMD_BONES = 0,
     VMD_MORPHS = 1,
     VMD_CAMERAS = 2,
     VMD_LIGHTS = 3,
     VMD_SELF_SHADOWS = 4,
-    VMD_PROPERTIES = 5
+    VMD_PROPERTIES = 5,
+
+    /* in a season's counts; to each the section's index is added */
+    VMD_SEASON_SMALLEST = 0,
+    VMD_SEASON_LARGEST = 6,
+
+    /* in a season's figures */
+    VMD_SEASON_TOTAL = 0,       /* to it the section's index is added: the section's records over all takes */
+    VMD_SEASON_RECORDS = 6,     /* the records of all six sections over all takes: the mean's total */
+    VMD_SEASON_BONE_NAMES = 7,  /* each take's distinct bone names, added up */
+    VMD_SEASON_MORPH_NAMES = 8, /* each take's distinct morph names, added up */
+    VMD_SEASON_ACCEPTED = 9,    /* takes accepted */
+    VMD_SEASON_REFUSED = 10     /* takes refused */
 };
 
 /* ---- opening */
@@ -251,7 +266,7 @@ uint32_t vmd_split_animation_into_parts(const uint8_t *file, size_t file_len,
  * ---- season figures
  *
  * Figures over takes that are lent one after another. They are held in two arrays: counts has the smallest and the largest
- * count of each section, figures has 64-bit numbers. vmd_season_none sets both to 0, which are the figures of no takes;
+ * count of each section, figures has 64-bit numbers, at the indices VMD_SEASON_.. above. vmd_season_none sets both to 0, which are the figures of no takes;
  * vmd_season_add adds a take; vmd_season_mean gives the mean of all six sections' records per accepted take.
  *
  * A take that is refused (1, 2) adds one to figures[VMD_SEASON_REFUSED] and nothing else. So does one with which any other of
@@ -259,29 +274,13 @@ uint32_t vmd_split_animation_into_parts(const uint8_t *file, size_t file_len,
  * accepted takes goes up by one just where a take was counted. While it is 0 the first take that is accepted sets smallest
  * and largest, whatever stood there. Any numbers may stand in the arrays.
  *
- * vmd_season_add counts names as vmd_split_sizes does: it takes up to 256 KiB of stack, and longest where nearly all names
- * differ. These calls do not refuse.
+ * vmd_season_add counts names as vmd_split_sizes does: it takes up to 256 KiB of stack, and takes longest where nearly all
+ * names differ. These calls do not refuse.
  */
-
-/* The indices in counts: to each the section's index is added. */
-enum {
-    VMD_SEASON_SMALLEST = 0,
-    VMD_SEASON_LARGEST = 6
-};
-
-/* The indices in figures. */
-enum {
-    VMD_SEASON_TOTAL = 0,       /* to it the section's index is added: the section's records over all takes */
-    VMD_SEASON_RECORDS = 6,     /* the records of all six sections over all takes: the mean's total */
-    VMD_SEASON_BONE_NAMES = 7,  /* each take's distinct bone names, added up */
-    VMD_SEASON_MORPH_NAMES = 8, /* each take's distinct morph names, added up */
-    VMD_SEASON_ACCEPTED = 9,    /* takes accepted */
-    VMD_SEASON_REFUSED = 10     /* takes refused */
-};
 
 void vmd_season_none(uint32_t counts[12], uint64_t figures[11]);
 void vmd_season_add(const uint8_t *file, size_t file_len, uint32_t counts[12], uint64_t figures[11]);
-/* mean receives the quotient and the remainder of records by accepted takes; 0, 0 with none accepted. */
+/* mean receives the quotient and the remainder of the records divided by the accepted takes; 0, 0 with none accepted. */
 void vmd_season_mean(const uint64_t figures[11], uint64_t mean[2]);
 
 #ifdef __cplusplus

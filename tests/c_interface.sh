@@ -17,10 +17,21 @@ fi
 
 warnings=(-Wall -Wextra -Werror -pedantic -Iinclude)
 
-# C++ programs include the header and link the library as well.
-printf '#include <vmd.h>\nint main() { return vmd_first_fault(nullptr, 0) == 0 ? 0 : 1; }\n' > "$work/header.cpp"
-c++ -std=c++11 "${warnings[@]}" "$work/header.cpp" "$library" -o "$work/header" || fail "the header is no C++"
-"$work/header" || fail "a call from C++ failed"
+# C++ programs include the header and link the library as well; the newer C++ warns of sums of two enums.
+cat > "$work/header.cpp" <<'END'
+#include <cstdint>
+#include <vmd.h>
+int main() {
+    std::uint32_t counts[12];
+    std::uint64_t figures[11];
+    vmd_season_none(counts, figures);
+    return counts[VMD_SEASON_LARGEST + VMD_PROPERTIES] == 0 && vmd_first_fault(nullptr, 0) == 0 ? 0 : 1;
+}
+END
+for standard in c++11 c++20; do
+    c++ -std=$standard "${warnings[@]}" "$work/header.cpp" "$library" -o "$work/header" || fail "the header is no $standard"
+    "$work/header" || fail "a call from $standard failed"
+done
 
 # No function of the header is left out.
 functions=$(grep -oE '\bvmd_[a-z_]+\(' include/vmd.h | sort -u)

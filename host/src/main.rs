@@ -29,10 +29,11 @@ vmd: VMD takes (MikuMikuDance motion files)
                                   files each line has the file's name and ': ' before it
   vmd export IN -o OUT            saves a take in canonical form
   vmd join FIRST SECOND.. -o OUT  joins takes from left to right: in every section the records of each, one after another
-  vmd season FILE..               figures over all takes together, a line for each: its name, ': ' and the number. They are
-                                  how many takes were accepted and refused; for each section its records in all takes, and
-                                  the smallest and the largest number of them in a take; the distinct bone and morph names
-                                  of each take, added up; and the records per accepted take, with the remainder
+  vmd season FILE..               figures over all takes together, one figure a line: the figure's name, ': ' and the
+                                  number. They are how many takes were accepted and refused; for each section its records
+                                  in all takes, and the smallest and the largest number of them in a take; the distinct
+                                  bone and morph names of each take, added up; the records of all sections, and these
+                                  divided by the accepted takes, with the remainder
   vmd --help, vmd --version
 
 IN, FIRST, SECOND and FILE may be '-' for standard input, one of them at most, and OUT for standard output. No file follows

@@ -93,7 +93,7 @@ impl Season {
         self.accepted != accepted
     }
 
-    /// The records of all six sections by the accepted takes; 0 and 0 without any.
+    /// The records of all six sections divided by the accepted takes; 0 and 0 without any.
     pub fn mean(&self) -> Mean {
         let [quotient, remainder] = c::season_mean(&self.arrays());
         Mean { quotient, remainder }

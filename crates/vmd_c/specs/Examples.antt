@@ -18,7 +18,7 @@ use Rattle.vmd_base.specs.declared.VmdRefusal.the-variants.{PartsDoNotFit}
 use Rattle.vmd_split.specs.Meaning.{split-is}
 use Rattle.vmd_split.specs.declared.VmdSplit.the-variants.{Refused, Tables}
 use Rattle.vmd_season.specs.Season.{Season}
-use Rattle.vmd_season.specs.Meaning.{season-is, take-is, mean-is}
+use Rattle.vmd_season.specs.Meaning.{season-is, mean-is}
 
 -- 0, or the number; the new value, or the old
 pub returned :

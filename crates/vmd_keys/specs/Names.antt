@@ -1,5 +1,5 @@
--- The names of a section's records, and the distinct ones of some names: 02 a), "distinct raw names in order of first
--- appearance". Definitions only.
+-- The names of a section's records and of a take's, and the distinct ones of some names: 02 a), "distinct raw names in order of
+-- first appearance"; 02 b) counts them. Definitions only.
 use Prim.Native.Nat.{ℕ, _+_, _*_}
 use mathlib.Core.Bool.{Bool, true, false, not}
 use mathlib.Core.List.{List, [], _∷_, map}

@@ -1,7 +1,7 @@
 -- Season figures by places: the steps of the code are the definition. Assumes nothing.
 use Prim.Native.Nat.{ℕ, _+_, _-_, _≤_}
 use mathlib.Core.Path.{_≡_, refl, sym, ap, _∙_}
-use mathlib.Core.Bool.{Bool, true, false, _&&_, and-eq-true-iff}
+use mathlib.Core.Bool.{Bool, true, false}
 use mathlib.Core.List.{List}
 use native.Mathlib.Omega.{arith}
 use borrow.Author.Tests.{leb-true, leb-false, le-leb, lt-leb}
@@ -18,59 +18,18 @@ use Rattle.vmd_format.specs.ScanLaws.{file-in}
 use Rattle.vmd_format.specs.ExportLaws.{take-in, take-by-places, Scanned, scan-counts}
 use Rattle.vmd_keys.specs.Names.{names-in, bone-names-of, morph-names-of, distinct}
 use Rattle.vmd_keys.specs.NameLaws.{bone-names, morph-names}
-use Rattle.vmd_season.specs.Season.{SectionFigures, Season, TakeFigures, figures-of, records-of, largest-figure, in-64-bits, totals-fit, take-fits, with-count, with-take, with-refused, taken-if, with-answer, with-file}
+use Rattle.vmd_season.specs.Season.{SectionFigures, Season, TakeFigures, figures-of, records-of, largest-figure, in-64-bits, take-fits, with-count, with-take, with-refused, taken-if, with-answer, with-file}
 
 -- ---- whether a take fits
 
 -- what is left of 64 bits
-pub room-left : (a n : ℕ) → a ≤ 18446744073709551615 → leb n (18446744073709551615 - a) ≡ in-64-bits (a + n)
+pub left-of-64 : (a n : ℕ) → a ≤ 18446744073709551615 → leb n (18446744073709551615 - a) ≡ in-64-bits (a + n)
 unfolding largest-figure
-room-left a n h = go (leb n (18446744073709551615 - a)) refl
+left-of-64 a n h = go (leb n (18446744073709551615 - a)) refl
   where
     go : (b : Bool) → leb n (18446744073709551615 - a) ≡ b → b ≡ leb (a + n) 18446744073709551615
     go true e = let l = leb-true n (18446744073709551615 - a) e in sym (le-leb (a + n) 18446744073709551615 (omega arith))
     go false e = let l = leb-false n (18446744073709551615 - a) e in sym (lt-leb (a + n) 18446744073709551615 (omega arith))
-
--- what it says, figure by figure
-pub record Rooms (z : Season) (f : TakeFigures) : Type 0 where
-  pub bones : z .bones .total + f .bones ≤ largest-figure
-  pub morphs : z .morphs .total + f .morphs ≤ largest-figure
-  pub cameras : z .cameras .total + f .cameras ≤ largest-figure
-  pub lights : z .lights .total + f .lights ≤ largest-figure
-  pub self-shadows : z .self-shadows .total + f .self-shadows ≤ largest-figure
-  pub properties : z .properties .total + f .properties ≤ largest-figure
-  pub records : z .records + records-of f ≤ largest-figure
-  pub bone-names : z .bone-names + f .bone-names ≤ largest-figure
-  pub morph-names : z .morph-names + f .morph-names ≤ largest-figure
-  pub accepted : z .accepted + 1 ≤ largest-figure
-
-both : {a b : Bool} → (a && b) ≡ true → (a ≡ true) × (b ≡ true)
-both e = and-eq-true-iff _ _ .0 e
-
-pub rooms : (z : Season) (f : TakeFigures) → take-fits z f ≡ true → Rooms z f
-unfolding take-fits totals-fit
-rooms z f e =
-    let a = both e in
-    let b = both (a .0) in
-    let c = both (b .0) in
-    let d = both (c .0) in
-    let g = both (d .0) in
-    let h = both (g .0) in
-    let i = both (h .0) in
-    let j = both (i .0) in
-    let k = both (j .0) in
-    record {
-      bones = leb-true _ _ (k .0);
-      morphs = leb-true _ _ (k .1);
-      cameras = leb-true _ _ (j .1);
-      lights = leb-true _ _ (i .1);
-      self-shadows = leb-true _ _ (h .1);
-      properties = leb-true _ _ (g .1);
-      records = leb-true _ _ (d .1);
-      bone-names = leb-true _ _ (c .1);
-      morph-names = leb-true _ _ (b .1);
-      accepted = leb-true _ _ (a .1);
-    }
 
 -- ---- one take more
 

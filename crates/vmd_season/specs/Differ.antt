@@ -1,5 +1,5 @@
 -- Files that differ only in bytes on which no figure depends: 02 b), "Takes that differ only in interpolation bytes or in bytes
--- after a name's first zero byte". Two files are walked over side by side, by the first one's counts. Definitions only.
+-- after a name's first zero byte". Two files are compared from the front on, by the first one's counts. Definitions only.
 use Prim.Native.Nat.{ℕ, zero, suc, _+_, _*_}
 use mathlib.Core.Path.{_≡_}
 use mathlib.Core.List.{List, [], _∷_, map}
@@ -101,6 +101,13 @@ pub record DifferOnly (d : Differing) (s t : List ℕ) : Type 0 where
   pub magic : take 30 s ≡ take 30 t
   pub model : SameName (take 20 (drop 30 s)) (take 20 (drop 30 t))
   pub sections : SameSections d all-stretches (drop 50 s) (drop 50 t)
+
+-- of two lists each file and the other's of the same number
+abbrev pub DifferEach : Differing → List (List ℕ) → List (List ℕ) → Type 0
+DifferEach d [] [] = Unit {0}
+DifferEach d [] (t ∷ k) = ⊥
+DifferEach d (s ∷ l) [] = ⊥
+DifferEach d (s ∷ l) (t ∷ k) = DifferOnly d s t × DifferEach d l k
 
 -- ---- two takes
 

@@ -18,7 +18,7 @@ use Rattle.vmd_format.specs.Records.{Bone, Morph, Camera, Light, SelfShadow, Ik
 use Rattle.vmd_format.specs.Read.{Step, refused, got, Reader, bind, Codec, whole, whole-if, fixed, many, table, Section, no-section, Oversized, refuse, emptied, over-count, records-if, counted-if, counted, optional, BytesOver, ignored, turned-down, Manner}
 use Rattle.vmd_format.specs.Take.{property, Take, File, take-of, magic, same, model-if, magic-if, header-if, header, ended, sections, read-file, answer, read-take}
 use Rattle.vmd_format.specs.PlacesLaws.{many-table}
-use Rattle.vmd_season.specs.Differ.{Differing, names, names-and-interpolation, Stretch, interpolating, wide, SameName, SameStretch, bone-stretches, morph-stretches, camera-stretches, light-stretches, self-shadow-stretches, ik-state-stretches, width, SameRecord, SameRecords, SameFrames, SameSections, all-stretches, DifferOnly, bone-without, camera-without, without-interpolation}
+use Rattle.vmd_season.specs.Differ.{Differing, names, names-and-interpolation, Stretch, named, interpolating, others, wide, SameName, SameStretch, bone-stretches, morph-stretches, camera-stretches, light-stretches, self-shadow-stretches, ik-state-stretches, width, SameRecord, SameRecords, SameFrames, SameSections, all-stretches, DifferOnly, bone-without, camera-without, without-interpolation}
 
 -- ---- bytes
 
@@ -423,3 +423,66 @@ interpolations-read m s t h = sym (go (read-take m s)) ∙ reads-alike names-and
         let l = self (t .lights) in
         let a = self (t .self-shadows) in
         λ z. given (record { model = t .model; bones = map bone-without (t .bones); morphs = f z; cameras = map camera-without (t .cameras); lights = l z; self-shadows = a z; properties = t .properties })
+
+-- a file differs from itself in nothing
+pub name-self : (s : List ℕ) → SameName s s
+name-self [] = tt
+name-self (zero ∷ s) = refl
+name-self (suc b ∷ s) = (refl, name-self s)
+
+stretch-self : (d : Differing) (x : Stretch) (s : List ℕ) → SameStretch d x s s
+stretch-self d (named n) s = name-self (take n s)
+stretch-self names (interpolating n) s = refl
+stretch-self names-and-interpolation (interpolating n) s = refl
+stretch-self d (others n) s = refl
+
+module _ (d : Differing) where
+  record-self : (l : List Stretch) (s : List ℕ) → SameRecord d l s s
+  record-self [] s = tt
+  record-self (x ∷ l) s = (stretch-self d x s, record-self l (drop (wide x) s))
+
+  records-self : (l : List Stretch) (n : ℕ) (s : List ℕ) → SameRecords d l n s s
+  unfolding SameRecords
+  records-self l zero s = tt
+  records-self l (suc n) s = (record-self l s, records-self l n (drop (width l) s))
+
+  frames-self : (n : ℕ) (s : List ℕ) → SameFrames d n s s
+  unfolding SameFrames
+  frames-self zero s = refl
+  frames-self (suc n) s = (refl, records-self ik-state-stretches (u32 (drop 5 s)) (drop 9 s), frames-self n (drop (u32 (drop 5 s) * 21) (drop 9 s)))
+
+  sections-self : (r : List (List Stretch)) (s : List ℕ) → SameSections d r s s
+  unfolding SameSections
+  sections-self [] s = (refl, frames-self (u32 s) (drop 4 s))
+  sections-self (l ∷ r) s = (refl, records-self l (u32 s) (drop 4 s), sections-self r (drop (u32 s * width l) (drop 4 s)))
+
+  pub differ-self : (s : List ℕ) → DifferOnly d s s
+  differ-self s = record { long = refl; magic = refl; model = name-self (take 20 (drop 30 s)); sections = sections-self all-stretches (drop 50 s) }
+
+-- what differs only after names differs in no more where interpolation may too
+stretch-wider : (x : Stretch) (s t : List ℕ) → SameStretch names x s t → SameStretch names-and-interpolation x s t
+stretch-wider (named n) s t h = h
+stretch-wider (interpolating n) s t h = ap length h
+stretch-wider (others n) s t h = h
+
+record-wider : (l : List Stretch) (s t : List ℕ) → SameRecord names l s t → SameRecord names-and-interpolation l s t
+record-wider [] s t h = tt
+record-wider (x ∷ l) s t h = (stretch-wider x s t (h .0), record-wider l (drop (wide x) s) (drop (wide x) t) (h .1))
+
+records-wider : (l : List Stretch) (n : ℕ) (s t : List ℕ) → SameRecords names l n s t → SameRecords names-and-interpolation l n s t
+unfolding SameRecords
+records-wider l zero s t h = tt
+records-wider l (suc n) s t h = (record-wider l s t (h .0), records-wider l n (drop (width l) s) (drop (width l) t) (h .1))
+
+frames-wider : (n : ℕ) (s t : List ℕ) → SameFrames names n s t → SameFrames names-and-interpolation n s t
+unfolding SameFrames
+frames-wider zero s t h = h
+frames-wider (suc n) s t h = (h .0, records-wider ik-state-stretches _ (drop 9 s) (drop 9 t) (h .1), frames-wider n _ _ (h .2))
+
+sections-wider : (r : List (List Stretch)) (s t : List ℕ) → SameSections names r s t → SameSections names-and-interpolation r s t
+unfolding SameSections
+sections-wider [] s t h = (h .0, frames-wider (u32 s) (drop 4 s) (drop 4 t) (h .1))
+sections-wider (l ∷ r) s t h = (h .0, records-wider l (u32 s) (drop 4 s) (drop 4 t) (h .1), sections-wider r _ _ (h .2))
+
+pub differ-wider : (s t : List ℕ) → DifferOnly names s t → DifferOnly names-and-interpolation s t
+differ-wider s t h = record { long = h .long; magic = h .magic; model = h .model; sections = sections-wider all-stretches (drop 50 s) (drop 50 t) (h .sections) }

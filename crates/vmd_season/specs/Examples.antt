@@ -4,13 +4,14 @@ use Prim.Native.Nat.{ℕ, zero, suc, _+_, _-_}
 use mathlib.Core.Path.{_≡_, refl}
 use mathlib.Core.Bool.{Bool, true, false, not, _&&_}
 use mathlib.Core.List.{List, [], _∷_, _++_}
-use lib.ListN.{replicate}
+use lib.ListN.{getD, replicate}
 use lib.Dec.{T, eqb}
 use Rattle.vmd_format.specs.Read.{lenient}
 use Rattle.vmd_format.specs.Computed.{computed, text, start, fours, u0, u1, bone-bytes, morph-bytes, camera-bytes, light-bytes, shadow-bytes, ik-bytes}
 use Rattle.vmd_keys.specs.Names.{bone-names-of, morph-names-of, keep-if, select, distinct}
 use Rattle.vmd_season.specs.Season.{SectionFigures, Season, no-section-figures, no-takes, TakeFigures, figures-of, records-of, largest-figure, totals-fit, take-fits, with-count, with-take, with-refused, taken-if, with-answer, with-file, season-from, season, mean-if, mean}
-use Rattle.vmd_season.specs.Differ.{names, names-and-interpolation, SameRecords, SameFrames, SameSections, DifferOnly}
+use Rattle.vmd_season.specs.Differ.{names, names-and-interpolation, SameName, SameRecords, SameFrames, SameSections, DifferOnly, DifferEach}
+use Rattle.vmd_season.specs.DifferLaws.{name-self, differ-self}
 
 -- unfolding this and `computed` unfolds the definitions of the figures
 unfoldable figures-computed : Unit {0}
@@ -67,10 +68,10 @@ abbrev where-same : Bool → ℕ → ℕ
 where-same true n = n
 where-same false n = 0
 
--- figure i of the ten that must not pass 64 bits is n, and the others are 0; smallest is 7 and largest 2, which no list gives
+-- figure i of the ten that must not pass 64 bits is n, and the others are 0; every smallest and largest is 2
 abbrev at-figure : ℕ → ℕ → Season
 at-figure i n =
-    let section : ℕ → SectionFigures = λ j. record { total = where-same (eqb i j) n; smallest = 7; largest = 2 } in record {
+    let section : ℕ → SectionFigures = λ j. record { total = where-same (eqb i j) n; smallest = 2; largest = 2 } in record {
       bones = section 0;
       morphs = section 1;
       cameras = section 2;
@@ -84,23 +85,21 @@ at-figure i n =
       refused = 18446744073709551615;
     }
 
--- what a take adds that has one of each
-abbrev ones : TakeFigures
-ones = record { bones = 1; morphs = 1; cameras = 1; lights = 1; self-shadows = 1; properties = 1; bone-names = 1; morph-names = 1 }
+-- what a take adds, another number to each figure
+abbrev some : TakeFigures
+some = record { bones = 3; morphs = 4; cameras = 5; lights = 6; self-shadows = 7; properties = 0; bone-names = 2; morph-names = 1 }
 
--- how many it adds to figure i
-abbrev added : Bool → ℕ
-added true = 6
-added false = 1
+abbrev added : List ℕ
+added = 3 ∷ 4 ∷ 5 ∷ 6 ∷ 7 ∷ 0 ∷ 25 ∷ 2 ∷ 1 ∷ 1 ∷ []
 
 abbrev every : ℕ → (ℕ → Bool) → Bool
 every zero f = true
 every (suc n) f = f n && every n f
 
--- each figure can reach 18,446,744,073,709,551,615 and cannot pass it
+-- each figure can reach 18,446,744,073,709,551,615 and cannot pass it: the one that the take adds nothing to stays there
 pub limits-told :
-    T (every 10 (λ i. take-fits (at-figure i (18446744073709551615 - added (eqb i 6))) ones))
-    × T (every 10 (λ i. not (take-fits (at-figure i (18446744073709551616 - added (eqb i 6))) ones)))
+    T (every 10 (λ i. take-fits (at-figure i (18446744073709551615 - getD added i 0)) some))
+    × T (every 10 (λ i. not (take-fits (at-figure i (18446744073709551616 - getD added i 0)) some)))
 unfolding figures-computed
 limits-told = (tt, tt)
 
@@ -111,19 +110,31 @@ stops-told = refl
 
 -- with none accepted the first take sets smallest and largest, whatever stood there; with some it does not
 pub first-told :
-    (with-take (at-figure 0 5) ones .bones ≡ record { total = 6; smallest = 1; largest = 1 })
-    × (with-take (at-figure 9 5) ones .bones ≡ record { total = 1; smallest = 1; largest = 2 })
+    (with-take (at-figure 0 5) some .bones ≡ record { total = 8; smallest = 3; largest = 3 })
+    × (with-take (at-figure 9 5) some .bones ≡ record { total = 3; smallest = 2; largest = 3 })
 unfolding figures-computed
 first-told = (refl, refl)
 
 -- ---- files that differ
 
--- a model name, a bone, a morph, a camera and an IK state, with bytes j after the names' ends and i for interpolation
+-- the numbers 1 to 8, and two records of each kind that has names or interpolation bytes: j stands after every name's end, i for
+-- interpolation. Names are empty, of one byte, and as wide as their field.
+abbrev numbers : List ℕ
+numbers = fours (1 ∷ 2 ∷ 3 ∷ 4 ∷ 5 ∷ 6 ∷ 7 ∷ 8 ∷ [])
+
 abbrev posed : ℕ → ℕ → List ℕ
 posed j i =
-    text ++ u0 ++ (77 ∷ 0 ∷ replicate 18 j) ++ u1 ++ (65 ∷ 0 ∷ replicate 13 j) ++ fours (1 ∷ 2 ∷ 3 ∷ 4 ∷ 5 ∷ 6 ∷ 7 ∷ 8 ∷ []) ++ replicate 64 i
-    ++ u1 ++ morph-bytes 66 j 6 ++ u1 ++ fours (1 ∷ 2 ∷ 3 ∷ 4 ∷ 5 ∷ 6 ∷ 7 ∷ 8 ∷ []) ++ replicate 24 i ++ fours (9 ∷ []) ++ (0 ∷ [])
-    ++ u0 ++ u0 ++ u1 ++ fours (9 ∷ []) ++ (1 ∷ []) ++ u1 ++ ik-bytes 69 j 1
+    text ++ u0 ++ (0 ∷ replicate 19 j)
+    ++ fours (2 ∷ []) ++ (65 ∷ 0 ∷ replicate 13 j) ++ numbers ++ replicate 64 i ++ replicate 15 66 ++ numbers ++ replicate 64 i
+    ++ fours (2 ∷ []) ++ (0 ∷ replicate 14 j) ++ fours (1 ∷ 2 ∷ []) ++ morph-bytes 66 j 6
+    ++ fours (2 ∷ []) ++ numbers ++ replicate 24 i ++ fours (9 ∷ []) ++ (0 ∷ []) ++ numbers ++ replicate 24 i ++ fours (9 ∷ []) ++ (0 ∷ [])
+    ++ u0 ++ u0 ++ fours (2 ∷ [])
+    ++ fours (9 ∷ []) ++ (1 ∷ []) ++ fours (2 ∷ []) ++ ik-bytes 69 j 1 ++ (0 ∷ replicate 19 j) ++ (1 ∷ [])
+    ++ fours (9 ∷ []) ++ (1 ∷ []) ++ fours (2 ∷ []) ++ ik-bytes 70 j 1 ++ replicate 20 71 ++ (1 ∷ [])
+
+-- as wide as the field
+abbrev full : SameName (replicate 15 66) (replicate 15 66) × SameName (replicate 20 71) (replicate 20 71)
+full = (name-self (replicate 15 66), name-self (replicate 20 71))
 
 pub differ-told : DifferOnly names (posed 1 5) (posed 2 5) × DifferOnly names-and-interpolation (posed 1 5) (posed 2 6)
 unfolding computed SameRecords SameFrames SameSections
@@ -131,13 +142,16 @@ differ-told = (
   record {
     long = refl;
     magic = refl;
-    model = (refl, refl);
-    sections = (refl, (((refl, refl), (refl, (refl, tt))), tt), (refl, (((refl, refl), (refl, tt)), tt), (refl, ((refl, (refl, (refl, tt))), tt), (refl, tt, (refl, tt, (refl, (refl, (((refl, refl), (refl, tt)), tt), refl)))))));
+    model = refl;
+    sections = (refl, (((refl, refl), (refl, (refl, tt))), ((full .0, (refl, (refl, tt))), tt)), (refl, ((refl, (refl, tt)), (((refl, refl), (refl, tt)), tt)), (refl, ((refl, (refl, (refl, tt))), ((refl, (refl, (refl, tt))), tt)), (refl, tt, (refl, tt, (refl, (refl, (((refl, refl), (refl, tt)), ((refl, (refl, tt)), tt)), (refl, (((refl, refl), (refl, tt)), ((full .1, (refl, tt)), tt)), refl))))))));
   },
   record {
     long = refl;
     magic = refl;
-    model = (refl, refl);
-    sections = (refl, (((refl, refl), (refl, (refl, tt))), tt), (refl, (((refl, refl), (refl, tt)), tt), (refl, ((refl, (refl, (refl, tt))), tt), (refl, tt, (refl, tt, (refl, (refl, (((refl, refl), (refl, tt)), tt), refl)))))));
+    model = refl;
+    sections = (refl, (((refl, refl), (refl, (refl, tt))), ((full .0, (refl, (refl, tt))), tt)), (refl, ((refl, (refl, tt)), (((refl, refl), (refl, tt)), tt)), (refl, ((refl, (refl, (refl, tt))), ((refl, (refl, (refl, tt))), tt)), (refl, tt, (refl, tt, (refl, (refl, (((refl, refl), (refl, tt)), ((refl, (refl, tt)), tt)), (refl, (((refl, refl), (refl, tt)), ((full .1, (refl, tt)), tt)), refl))))))));
   },
 )
+
+pub each-told : DifferEach names-and-interpolation (posed 1 5 ∷ posed 1 5 ∷ []) (posed 1 5 ∷ posed 2 6 ∷ [])
+each-told = (differ-self names-and-interpolation (posed 1 5), (differ-told .1, tt))

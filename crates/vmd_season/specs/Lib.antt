@@ -2,7 +2,8 @@ pub mod Season
 pub mod Meaning
 pub mod Differ
 pub mod Overall
-pub mod Examples
+pub mod Fitting
 pub mod DifferLaws
 pub mod SeasonLaws
 pub mod OverallLaws
+pub mod Examples

@@ -1,19 +1,20 @@
 -- The season figures of a list are those of all its takes at once, where no figure passes 64 bits.
 use Prim.Native.Nat.{ℕ, zero, suc, _+_, _≤_, _<_, min, max}
 use mathlib.Core.Path.{_≡_, refl, ap, ap₂, sym, _∙_}
-use mathlib.Core.Bool.{Bool, true, false, _&&_}
+use mathlib.Core.Bool.{true}
 use mathlib.Core.List.{List, [], _∷_, _++_, append-nil, append-assoc}
 use native.Mathlib.Omega.{arith}
-use borrow.Author.Tests.{le-leb, eq-eqb, ne-eqb}
+use borrow.Author.Tests.{ne-eqb}
 use lib.ListN.{length, length-append, length-map}
-use lib.Dec.{leb, eqb}
+use lib.Dec.{eqb}
 use Rattle.vmd_format.specs.Answer.{Answer, declined, given}
 use Rattle.vmd_format.specs.Read.{Manner}
 use Rattle.vmd_format.specs.ReadLaws.{All, all-append}
 use Rattle.vmd_format.specs.Take.{Take, read-take}
 use Rattle.vmd_keys.specs.Names.{bone-names-of, morph-names-of, distinct}
 use Rattle.vmd_count.specs.DistinctLaws.{distinct-short}
-use Rattle.vmd_season.specs.Season.{SectionFigures, Season, no-section-figures, no-takes, TakeFigures, figures-of, records-of, largest-figure, totals-fit, take-fits, with-count, with-take, with-refused, taken-if, with-answer, with-file, season-from, season}
+use Rattle.vmd_season.specs.Season.{SectionFigures, Season, no-section-figures, no-takes, TakeFigures, figures-of, records-of, largest-figure, take-fits, with-count, with-take, with-refused, taken-if, with-answer, with-file, season-from, season}
+use Rattle.vmd_season.specs.Fitting.{says-fits}
 use Rattle.vmd_season.specs.Overall.{accepted-if, accepted-takes, refused-if, refused-takes, sum-over, smallest-over, largest-over, section-over, overall}
 
 -- ---- one take more
@@ -96,24 +97,23 @@ sum-le f (a ∷ l) h k = omega (arith, h a (k .0), sum-le f l h (k .1))
 
 module _ (l : List TakeFigures) (a : TakeFigures) (known : All Named l) (named : Named a)
     (few : sum-over records-of l + records-of a ≤ largest-figure) where
-  figure-fits : (f : TakeFigures → ℕ) → ((a : TakeFigures) → Named a → f a ≤ records-of a) → leb (sum-over f l + f a) largest-figure ≡ true
-  figure-fits f h = let x = sum-le f l h known in let y = h a named in le-leb (sum-over f l + f a) largest-figure (omega arith)
+  figure-fits : (f : TakeFigures → ℕ) → ((a : TakeFigures) → Named a → f a ≤ records-of a) → sum-over f l + f a ≤ largest-figure
+  figure-fits f h = let x = sum-le f l h known in let y = h a named in omega arith
 
   take-fits-there : (n : ℕ) → length l + 1 ≤ largest-figure → take-fits (overall l n) a ≡ true
-  unfolding take-fits totals-fit overall section-over records-of
-  take-fits-there n h =
-      rw (
-        figure-fits (λ f. f .bones) (λ a k. omega arith),
-        figure-fits (λ f. f .morphs) (λ a k. omega arith),
-        figure-fits (λ f. f .cameras) (λ a k. omega arith),
-        figure-fits (λ f. f .lights) (λ a k. omega arith),
-        figure-fits (λ f. f .self-shadows) (λ a k. omega arith),
-        figure-fits (λ f. f .properties) (λ a k. omega arith),
-        figure-fits records-of (λ a k. omega arith),
-        figure-fits (λ f. f .bone-names) (λ a k. omega (arith, k .bones)),
-        figure-fits (λ f. f .morph-names) (λ a k. omega (arith, k .morphs)),
-        le-leb (length l + 1) largest-figure h,
-      )
+  unfolding overall section-over records-of
+  take-fits-there n h = says-fits (overall l n) a (record {
+    bones = figure-fits (λ f. f .bones) (λ a k. omega arith);
+    morphs = figure-fits (λ f. f .morphs) (λ a k. omega arith);
+    cameras = figure-fits (λ f. f .cameras) (λ a k. omega arith);
+    lights = figure-fits (λ f. f .lights) (λ a k. omega arith);
+    self-shadows = figure-fits (λ f. f .self-shadows) (λ a k. omega arith);
+    properties = figure-fits (λ f. f .properties) (λ a k. omega arith);
+    records = figure-fits records-of (λ a k. omega arith);
+    bone-names = figure-fits (λ f. f .bone-names) (λ a k. omega (arith, k .bones));
+    morph-names = figure-fits (λ f. f .morph-names) (λ a k. omega (arith, k .morphs));
+    accepted = h;
+  })
 
 few-here : (l : List TakeFigures) (a : TakeFigures) (k : List TakeFigures) → sum-over records-of (l ++ (a ∷ k)) ≤ largest-figure
     → sum-over records-of l + records-of a ≤ largest-figure

@@ -1,5 +1,5 @@
 -- Laws of season figures: the sentences of 02 b). In every manner of reading.
-use Prim.Native.Nat.{ℕ, zero, suc, _+_, _*_, _/_, _%_, _<_, min}
+use Prim.Native.Nat.{ℕ, _+_, _*_, _/_, _%_, _<_, min, max}
 use mathlib.Core.Path.{_≡_, refl, ap, ap₂, sym, _∙_}
 use mathlib.Core.Bool.{Bool, true, false}
 use mathlib.Core.List.{List, [], _∷_, _++_, map}
@@ -15,7 +15,7 @@ use Rattle.vmd_format.specs.Records.{Bone}
 use Rattle.vmd_format.specs.Take.{Take, read-take}
 use Rattle.vmd_keys.specs.Names.{bone-names-of, morph-names-of, distinct}
 use Rattle.vmd_season.specs.Season.{SectionFigures, Season, no-section-figures, only-refused, no-takes, TakeFigures, figures-of, records-of, largest-figure, take-fits, with-count, with-take, with-refused, taken-if, with-answer, with-file, season-from, season, Mean, mean-if, mean}
-use Rattle.vmd_season.specs.Differ.{Differing, names, names-and-interpolation, DifferOnly, bone-without, camera-without, without-interpolation}
+use Rattle.vmd_season.specs.Differ.{Differing, names, names-and-interpolation, DifferOnly, DifferEach, bone-without, camera-without, without-interpolation}
 use Rattle.vmd_season.specs.DifferLaws.{names-read, interpolations-read}
 
 -- ---- one file more
@@ -75,6 +75,31 @@ refused-stops z e =
       refused = r i;
     }
 
+-- ---- smallest and largest
+
+abbrev pub first-figures : SectionFigures → ℕ → SectionFigures
+first-figures x n = record { total = x .total + n; smallest = n; largest = n }
+
+abbrev pub later-figures : SectionFigures → ℕ → SectionFigures
+later-figures x n = record { total = x .total + n; smallest = min (x .smallest) n; largest = max (x .largest) n }
+
+-- each section's figures with a take are these
+abbrev pub SectionsAre : (SectionFigures → ℕ → SectionFigures) → Season → TakeFigures → Season → Type 0
+SectionsAre g z f next =
+    (next .bones ≡ g (z .bones) (f .bones)) × (next .morphs ≡ g (z .morphs) (f .morphs)) × (next .cameras ≡ g (z .cameras) (f .cameras))
+    × (next .lights ≡ g (z .lights) (f .lights)) × (next .self-shadows ≡ g (z .self-shadows) (f .self-shadows))
+    × (next .properties ≡ g (z .properties) (f .properties))
+
+-- with none accepted the first take's counts are smallest and largest, whatever stood there
+pub first-sets : (z : Season) (f : TakeFigures) → z .accepted ≡ 0 → SectionsAre first-figures z f (with-take z f)
+unfolding with-take with-count
+first-sets z f e = rw (eq-eqb (z .accepted) 0 e) (refl, refl, refl, refl, refl, refl)
+
+-- with some, the smaller and the larger of both
+pub later-compares : (z : Season) (f : TakeFigures) → 0 < z .accepted → SectionsAre later-figures z f (with-take z f)
+unfolding with-take with-count
+later-compares z f h = rw (ne-eqb (z .accepted) 0 (λ e. omega arith)) (refl, refl, refl, refl, refl, refl)
+
 -- ---- takes that differ in nothing that counts
 
 names-without : (l : List Bone) → map (λ b. b .name) (map bone-without l) ≡ map (λ b. b .name) l
@@ -115,12 +140,6 @@ module _ (m : Manner) where
   same-file names z s t h = ap (with-answer z) (names-read m s t h)
   same-file names-and-interpolation z s t h =
       sym (answer-without z (read-take m s)) ∙ ap (with-answer z) (interpolations-read m s t h) ∙ answer-without z (read-take m t)
-
-  abbrev pub DifferEach : Differing → List (List ℕ) → List (List ℕ) → Type 0
-  DifferEach d [] [] = Unit {0}
-  DifferEach d [] (t ∷ k) = ⊥
-  DifferEach d (s ∷ l) [] = ⊥
-  DifferEach d (s ∷ l) (t ∷ k) = DifferOnly d s t × DifferEach d l k
 
   from-same : (d : Differing) (z : Season) (l k : List (List ℕ)) → DifferEach d l k → season-from m z l ≡ season-from m z k
   unfolding season-from

@@ -44,7 +44,7 @@ pub struct VmdMean {
     pub remainder: u64,
 }
 
-// What a take adds.
+// What a take adds. Internal: no call takes or gives one.
 pub struct VmdTakeFigures {
     pub bones: u32,
     pub morphs: u32,
