@@ -1,7 +1,7 @@
 -- The calls for a season over a list of files: slots that one call filled say its season to the next, so that after the last
 -- they hold the figures of the list.
 use Prim.Native.Nat.{ℕ}
-use mathlib.Core.Path.{_≡_, refl, ap, _∙_}
+use mathlib.Core.Path.{_≡_, refl}
 use mathlib.Core.List.{List, [], _∷_}
 use Rattle.vmd_format.specs.Read.{lenient}
 use Rattle.vmd_season.specs.Season.{Season, no-takes, with-file, season-from, season, mean}

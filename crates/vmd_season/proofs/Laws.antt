@@ -8,9 +8,9 @@ use borrow.Author.Tests.{leb-true, leb-false, le-leb, lt-leb}
 use lib.ListN.{length}
 use lib.Dec.{leb, eqb}
 use Rattle.vmd_format.specs.Refusal.{Refusal}
-use Rattle.vmd_format.specs.Answer.{Answer, declined, given, map-answer}
+use Rattle.vmd_format.specs.Answer.{declined, given, map-answer}
 use Rattle.vmd_format.specs.Read.{Manner}
-use Rattle.vmd_format.specs.Take.{take-of, read-take}
+use Rattle.vmd_format.specs.Take.{take-of}
 use Rattle.vmd_format.specs.Opening.{Scan}
 use Rattle.vmd_format.specs.Places.{scan-file}
 use Rattle.vmd_format.specs.PlacesLaws.{section-in}

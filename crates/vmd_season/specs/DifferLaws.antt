@@ -3,7 +3,7 @@
 use Prim.Native.Nat.{ℕ, zero, suc, _+_, _*_, _≤_, _<_}
 use mathlib.Core.Path.{_≡_, refl, ap, ap₂, sym, _∙_}
 use mathlib.Core.Bool.{Bool, true, false}
-use mathlib.Core.List.{List, [], _∷_, map}
+use mathlib.Core.List.{List, [], _∷_, map, map-id}
 use native.Mathlib.Omega.{arith}
 use native.Mathlib.Nat.{zero-add, suc-add}
 use borrow.Author.Tests.{leb-true}
@@ -12,9 +12,9 @@ use lib.Seq.{take-nil, drop-nil, take-take, drop-drop, getD-take}
 use lib.Dec.{leb}
 use Rattle.vmd_format.specs.Bytes.{u32, before-zero, is-set, is-zero}
 use Rattle.vmd_format.specs.Layout.{Layout, number, byte, flag, inverted, name, raw, _⊗_, as-record}
-use Rattle.vmd_format.specs.Refusal.{Refusal, file-ends-early}
+use Rattle.vmd_format.specs.Refusal.{file-ends-early}
 use Rattle.vmd_format.specs.Answer.{Answer, declined, given, map-answer}
-use Rattle.vmd_format.specs.Records.{Bone, Morph, Camera, Light, SelfShadow, IkState, Property, bone, morph, camera, light, self-shadow, ik-state, property-head}
+use Rattle.vmd_format.specs.Records.{Bone, Camera, IkState, Property, bone, morph, camera, light, self-shadow, ik-state, property-head}
 use Rattle.vmd_format.specs.Read.{Step, refused, got, Reader, bind, Codec, whole, whole-if, fixed, many, table, Section, no-section, Oversized, refuse, emptied, over-count, records-if, counted-if, counted, optional, BytesOver, ignored, turned-down, Manner}
 use Rattle.vmd_format.specs.Take.{property, Take, File, take-of, magic, same, model-if, magic-if, header-if, header, ended, sections, read-file, answer, read-take}
 use Rattle.vmd_format.specs.PlacesLaws.{many-table}
@@ -67,29 +67,32 @@ name-same (suc a ∷ s) (suc b ∷ t) h = ap₂ (λ (x : ℕ) (r : List ℕ). su
 
 -- ---- records
 
+-- what is kept of interpolation bytes
+abbrev bytes-kept : Differing → List ℕ → List ℕ
+bytes-kept names l = l
+bytes-kept names-and-interpolation l = []
+
 abbrev bone-kept : Differing → Bone → Bone
-bone-kept names b = b
-bone-kept names-and-interpolation b = bone-without b
+bone-kept d b = record { name = b .name; frame = b .frame; tx = b .tx; ty = b .ty; tz = b .tz; rx = b .rx; ry = b .ry; rz = b .rz; rw = b .rw; interpolation = bytes-kept d (b .interpolation) }
 
 abbrev camera-kept : Differing → Camera → Camera
-camera-kept names c = c
-camera-kept names-and-interpolation c = camera-without c
+camera-kept d c = record { frame = c .frame; distance = c .distance; px = c .px; py = c .py; pz = c .pz; rx = c .rx; ry = c .ry; rz = c .rz; interpolation = bytes-kept d (c .interpolation); fov = c .fov; perspective = c .perspective }
+
+interpolation-same : (d : Differing) (n : ℕ) (s t : List ℕ) → SameStretch d (interpolating n) s t → bytes-kept d (take n s) ≡ bytes-kept d (take n t)
+interpolation-same names n s t h = h
+interpolation-same names-and-interpolation n s t h = refl
 
 -- eight numbers on
 eight : (s : List ℕ) → drop 4 (drop 4 (drop 4 (drop 4 (drop 4 (drop 4 (drop 4 (drop 4 s))))))) ≡ drop 32 s
 eight s = simp drop-drop
 
 bone-same : (d : Differing) (s t : List ℕ) → SameRecord d bone-stretches s t → bone-kept d (bone .decode s) ≡ bone-kept d (bone .decode t)
-unfolding bone as-record name number raw _⊗_ bone-without
-bone-same names s t h =
+unfolding bone as-record name number raw _⊗_
+bone-same d s t h =
     let n = name-same _ _ (h .0) in
     let m = numbers-same 8 (drop 15 s) (drop 15 t) (h .1 .0) in
-    let i : take 64 (drop 4 (drop 4 (drop 4 (drop 4 (drop 4 (drop 4 (drop 4 (drop 4 (drop 15 s))))))))) ≡ take 64 (drop 4 (drop 4 (drop 4 (drop 4 (drop 4 (drop 4 (drop 4 (drop 4 (drop 15 t))))))))) = rw (eight (drop 15 s), eight (drop 15 t)) (h .1 .1 .0) in
+    let i : bytes-kept d (take 64 (drop 4 (drop 4 (drop 4 (drop 4 (drop 4 (drop 4 (drop 4 (drop 4 (drop 15 s)))))))))) ≡ bytes-kept d (take 64 (drop 4 (drop 4 (drop 4 (drop 4 (drop 4 (drop 4 (drop 4 (drop 4 (drop 15 t)))))))))) = rw (eight (drop 15 s), eight (drop 15 t)) (interpolation-same d 64 (drop 32 (drop 15 s)) (drop 32 (drop 15 t)) (h .1 .1 .0)) in
     λ j. record { name = n j; frame = m .0 j; tx = m .1 .0 j; ty = m .1 .1 .0 j; tz = m .1 .1 .1 .0 j; rx = m .1 .1 .1 .1 .0 j; ry = m .1 .1 .1 .1 .1 .0 j; rz = m .1 .1 .1 .1 .1 .1 .0 j; rw = m .1 .1 .1 .1 .1 .1 .1 .0 j; interpolation = i j }
-bone-same names-and-interpolation s t h =
-    let n = name-same _ _ (h .0) in
-    let m = numbers-same 8 (drop 15 s) (drop 15 t) (h .1 .0) in
-    λ j. record { name = n j; frame = m .0 j; tx = m .1 .0 j; ty = m .1 .1 .0 j; tz = m .1 .1 .1 .0 j; rx = m .1 .1 .1 .1 .0 j; ry = m .1 .1 .1 .1 .1 .0 j; rz = m .1 .1 .1 .1 .1 .1 .0 j; rw = m .1 .1 .1 .1 .1 .1 .1 .0 j; interpolation = [] }
 
 morph-same : (d : Differing) (s t : List ℕ) → SameRecord d morph-stretches s t → morph .decode s ≡ morph .decode t
 unfolding morph as-record name number _⊗_
@@ -99,24 +102,17 @@ morph-same d s t h =
     λ j. record { name = n j; frame = m .0 j; weight = m .1 .0 j }
 
 camera-same : (d : Differing) (s t : List ℕ) → SameRecord d camera-stretches s t → camera-kept d (camera .decode s) ≡ camera-kept d (camera .decode t)
-unfolding camera as-record number raw inverted _⊗_ camera-without
-camera-same d s t h = go d (h .1 .0)
-  where
-    m : Numbers 8 s t
-    m = numbers-same 8 s t (h .0)
-
-    f : u32 (drop 24 (drop 4 (drop 4 (drop 4 (drop 4 (drop 4 (drop 4 (drop 4 (drop 4 s))))))))) ≡ u32 (drop 24 (drop 4 (drop 4 (drop 4 (drop 4 (drop 4 (drop 4 (drop 4 (drop 4 t)))))))))
-    f = rw (eight s, eight t) (number-same (drop 24 (drop 32 s)) (drop 24 (drop 32 t)) (front 4 1 (drop 24 (drop 32 s)) (drop 24 (drop 32 t)) (h .1 .1 .0)))
-
-    p : is-zero (getD (drop 4 (drop 24 (drop 4 (drop 4 (drop 4 (drop 4 (drop 4 (drop 4 (drop 4 (drop 4 s)))))))))) 0 0) ≡ is-zero (getD (drop 4 (drop 24 (drop 4 (drop 4 (drop 4 (drop 4 (drop 4 (drop 4 (drop 4 (drop 4 t)))))))))) 0 0)
-    p = rw (eight s, eight t) (ap is-zero (byte-same 1 0 (drop 4 (drop 24 (drop 32 s))) (drop 4 (drop 24 (drop 32 t))) (omega arith) (back 4 1 (drop 24 (drop 32 s)) (drop 24 (drop 32 t)) (h .1 .1 .0))))
-
-    go : (d : Differing) → SameStretch d (interpolating 24) (drop 32 s) (drop 32 t) → camera-kept d (camera .decode s) ≡ camera-kept d (camera .decode t)
-    go names i =
-        let k : take 24 (drop 4 (drop 4 (drop 4 (drop 4 (drop 4 (drop 4 (drop 4 (drop 4 s)))))))) ≡ take 24 (drop 4 (drop 4 (drop 4 (drop 4 (drop 4 (drop 4 (drop 4 (drop 4 t)))))))) = rw (eight s, eight t) i in
-        λ j. record { frame = m .0 j; distance = m .1 .0 j; px = m .1 .1 .0 j; py = m .1 .1 .1 .0 j; pz = m .1 .1 .1 .1 .0 j; rx = m .1 .1 .1 .1 .1 .0 j; ry = m .1 .1 .1 .1 .1 .1 .0 j; rz = m .1 .1 .1 .1 .1 .1 .1 .0 j; interpolation = k j; fov = f j; perspective = p j }
-    go names-and-interpolation i =
-        λ j. record { frame = m .0 j; distance = m .1 .0 j; px = m .1 .1 .0 j; py = m .1 .1 .1 .0 j; pz = m .1 .1 .1 .1 .0 j; rx = m .1 .1 .1 .1 .1 .0 j; ry = m .1 .1 .1 .1 .1 .1 .0 j; rz = m .1 .1 .1 .1 .1 .1 .1 .0 j; interpolation = []; fov = f j; perspective = p j }
+unfolding camera as-record number raw inverted _⊗_
+camera-same d s t h =
+    let m = numbers-same 8 s t (h .0) in
+    let u = drop 24 (drop 32 s) in
+    let v = drop 24 (drop 32 t) in
+    let e : drop 4 (drop 4 (drop 4 (drop 4 (drop 4 (drop 4 (drop 4 (drop 4 s))))))) ≡ drop 32 s = eight s in
+    let g : drop 4 (drop 4 (drop 4 (drop 4 (drop 4 (drop 4 (drop 4 (drop 4 t))))))) ≡ drop 32 t = eight t in
+    let k = ap (λ r. bytes-kept d (take 24 r)) e ∙ interpolation-same d 24 (drop 32 s) (drop 32 t) (h .1 .0) ∙ sym (ap (λ r. bytes-kept d (take 24 r)) g) in
+    let f = ap (λ r. u32 (drop 24 r)) e ∙ number-same u v (front 4 1 u v (h .1 .1 .0)) ∙ sym (ap (λ r. u32 (drop 24 r)) g) in
+    let p = ap (λ r. is-zero (getD (drop 4 (drop 24 r)) 0 0)) e ∙ ap is-zero (byte-same 1 0 (drop 4 u) (drop 4 v) (omega arith) (back 4 1 u v (h .1 .1 .0))) ∙ sym (ap (λ r. is-zero (getD (drop 4 (drop 24 r)) 0 0)) g) in
+    λ j. record { frame = m .0 j; distance = m .1 .0 j; px = m .1 .1 .0 j; py = m .1 .1 .1 .0 j; pz = m .1 .1 .1 .1 .0 j; rx = m .1 .1 .1 .1 .1 .0 j; ry = m .1 .1 .1 .1 .1 .1 .0 j; rz = m .1 .1 .1 .1 .1 .1 .1 .0 j; interpolation = k j; fov = f j; perspective = p j }
 
 light-same : (d : Differing) (s t : List ℕ) → SameRecord d light-stretches s t → light .decode s ≡ light .decode t
 unfolding light as-record number _⊗_
@@ -225,10 +221,6 @@ module _ {A B : Type 0} (d : Differing) (K : Layout A) (f : A → B) (l : List S
 
 -- ---- property frames
 
-self : {A : Type 0} (l : List A) → map (λ a. a) l ≡ l
-self [] = refl
-self {A} (a ∷ l) = ap {B = List A} (λ r. a ∷ r) (self l)
-
 abbrev Equal : {A : Type 0} → A → A → Type 0
 Equal a b = a ≡ b
 
@@ -265,7 +257,7 @@ module _ (d : Differing) (Q : List ℕ → List ℕ → Type 0) (s t : List ℕ)
       last : (x y : Section IkState) (u w : List ℕ) → SameIkStates x y → length u ≡ length w → Q u w
           → Together Equal Q (made (u32 s, is-set (getD (drop 4 s) 0 0)) x u) (made (u32 t, is-set (getD (drop 4 t) 0 0)) y w)
       last x y u w p l r =
-          let i : x .items ≡ y .items = sym (self (x .items)) ∙ p ∙ self (y .items) in
+          let i : x .items ≡ y .items = sym (map-id (x .items)) ∙ p ∙ map-id (y .items) in
           ((λ j. record { frame = n j; visible = v j; ik-states = i j }), l, r)
 
       go : (b : Bool) → Together Equal Q (bind (whole-if b property-head s) then) (bind (whole-if b property-head t) then)
@@ -399,11 +391,11 @@ names-read m s t h = sym (go (read-take m s)) ∙ reads-alike names m s t h ∙ 
   where
     whole-take : (t : Take) → kept names t ≡ t
     whole-take t =
-        let b = self (t .bones) in
-        let f = self (t .morphs) in
-        let c = self (t .cameras) in
-        let l = self (t .lights) in
-        let a = self (t .self-shadows) in
+        let b = map-id (t .bones) in
+        let f = map-id (t .morphs) in
+        let c = map-id (t .cameras) in
+        let l = map-id (t .lights) in
+        let a = map-id (t .self-shadows) in
         λ z. record { model = t .model; bones = b z; morphs = f z; cameras = c z; lights = l z; self-shadows = a z; properties = t .properties }
 
     go : (x : Answer Take) → map-answer (kept names) x ≡ x
@@ -413,15 +405,15 @@ names-read m s t h = sym (go (read-take m s)) ∙ reads-alike names m s t h ∙ 
 -- two that differ in interpolation bytes too read as takes that are equal without these
 pub interpolations-read : (m : Manner) (s t : List ℕ) → DifferOnly names-and-interpolation s t
     → map-answer without-interpolation (read-take m s) ≡ map-answer without-interpolation (read-take m t)
-unfolding map-answer without-interpolation
+unfolding map-answer without-interpolation bone-without camera-without
 interpolations-read m s t h = sym (go (read-take m s)) ∙ reads-alike names-and-interpolation m s t h ∙ go (read-take m t)
   where
     go : (x : Answer Take) → map-answer (kept names-and-interpolation) x ≡ map-answer without-interpolation x
     go (declined k) = refl
     go (given t) =
-        let f = self (t .morphs) in
-        let l = self (t .lights) in
-        let a = self (t .self-shadows) in
+        let f = map-id (t .morphs) in
+        let l = map-id (t .lights) in
+        let a = map-id (t .self-shadows) in
         λ z. given (record { model = t .model; bones = map bone-without (t .bones); morphs = f z; cameras = map camera-without (t .cameras); lights = l z; self-shadows = a z; properties = t .properties })
 
 -- a file differs from itself in nothing

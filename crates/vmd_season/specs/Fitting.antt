@@ -1,7 +1,7 @@
 -- What it is for a take to fit: each of the ten figures stays within 64 bits, and nothing else is asked.
-use Prim.Native.Nat.{ℕ, _+_, _≤_}
+use Prim.Native.Nat.{_+_, _≤_}
 use mathlib.Core.Path.{_≡_}
-use mathlib.Core.Bool.{Bool, true, _&&_, and-eq-true-iff}
+use mathlib.Core.Bool.{true, and-eq-true-iff}
 use borrow.Author.Tests.{leb-true, le-leb}
 use Rattle.vmd_season.specs.Season.{Season, TakeFigures, records-of, largest-figure, totals-fit, take-fits}
 
@@ -18,22 +18,19 @@ pub record AllFit (z : Season) (f : TakeFigures) : Type 0 where
   pub morph-names : z .morph-names + f .morph-names ≤ largest-figure
   pub accepted : z .accepted + 1 ≤ largest-figure
 
-both : {a b : Bool} → (a && b) ≡ true → (a ≡ true) × (b ≡ true)
-both e = and-eq-true-iff _ _ .0 e
-
 module _ (z : Season) (f : TakeFigures) where
   pub fits-says : take-fits z f ≡ true → AllFit z f
   unfolding take-fits totals-fit
   fits-says e =
-      let a = both e in
-      let b = both (a .0) in
-      let c = both (b .0) in
-      let d = both (c .0) in
-      let g = both (d .0) in
-      let h = both (g .0) in
-      let i = both (h .0) in
-      let j = both (i .0) in
-      let k = both (j .0) in
+      let a = and-eq-true-iff _ _ .0 e in
+      let b = and-eq-true-iff _ _ .0 (a .0) in
+      let c = and-eq-true-iff _ _ .0 (b .0) in
+      let d = and-eq-true-iff _ _ .0 (c .0) in
+      let g = and-eq-true-iff _ _ .0 (d .0) in
+      let h = and-eq-true-iff _ _ .0 (g .0) in
+      let i = and-eq-true-iff _ _ .0 (h .0) in
+      let j = and-eq-true-iff _ _ .0 (i .0) in
+      let k = and-eq-true-iff _ _ .0 (j .0) in
       record {
         bones = leb-true _ _ (k .0);
         morphs = leb-true _ _ (k .1);

@@ -1,5 +1,5 @@
 -- The season figures of a list are those of all its takes at once, where no figure passes 64 bits.
-use Prim.Native.Nat.{ℕ, zero, suc, _+_, _≤_, _<_, min, max}
+use Prim.Native.Nat.{ℕ, suc, _+_, _≤_, min, max}
 use mathlib.Core.Path.{_≡_, refl, ap, ap₂, sym, _∙_}
 use mathlib.Core.Bool.{true}
 use mathlib.Core.List.{List, [], _∷_, _++_, append-nil, append-assoc}
@@ -11,9 +11,9 @@ use Rattle.vmd_format.specs.Answer.{Answer, declined, given}
 use Rattle.vmd_format.specs.Read.{Manner}
 use Rattle.vmd_format.specs.ReadLaws.{All, all-append}
 use Rattle.vmd_format.specs.Take.{Take, read-take}
-use Rattle.vmd_keys.specs.Names.{bone-names-of, morph-names-of, distinct}
+use Rattle.vmd_keys.specs.Names.{bone-names-of, morph-names-of}
 use Rattle.vmd_count.specs.DistinctLaws.{distinct-short}
-use Rattle.vmd_season.specs.Season.{SectionFigures, Season, no-section-figures, no-takes, TakeFigures, figures-of, records-of, largest-figure, take-fits, with-count, with-take, with-refused, taken-if, with-answer, with-file, season-from, season}
+use Rattle.vmd_season.specs.Season.{no-section-figures, no-takes, TakeFigures, figures-of, records-of, largest-figure, take-fits, with-count, with-take, with-refused, taken-if, with-answer, with-file, season-from, season}
 use Rattle.vmd_season.specs.Fitting.{says-fits}
 use Rattle.vmd_season.specs.Overall.{accepted-if, accepted-takes, refused-if, refused-takes, sum-over, smallest-over, largest-over, section-over, overall}
 
@@ -78,7 +78,7 @@ refused-more l n h = let e : min (n + 1) largest-figure ≡ n + 1 = omega arith 
 -- ---- it fits
 
 -- a take has no more names than records
-pub record Named (f : TakeFigures) : Type 0 where
+record Named (f : TakeFigures) : Type 0 where
   pub bones : f .bone-names ≤ f .bones
   pub morphs : f .morph-names ≤ f .morphs
 

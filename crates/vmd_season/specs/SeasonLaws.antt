@@ -1,6 +1,6 @@
 -- Laws of season figures: the sentences of 02 b). In every manner of reading.
-use Prim.Native.Nat.{ℕ, _+_, _*_, _/_, _%_, _<_, min, max}
-use mathlib.Core.Path.{_≡_, refl, ap, ap₂, sym, _∙_}
+use Prim.Native.Nat.{ℕ, _+_, _*_, _<_, min}
+use mathlib.Core.Path.{_≡_, refl, ap, sym, _∙_}
 use mathlib.Core.Bool.{Bool, true, false}
 use mathlib.Core.List.{List, [], _∷_, _++_, map}
 use native.Mathlib.Omega.{arith}
@@ -14,7 +14,7 @@ use Rattle.vmd_format.specs.Read.{Manner}
 use Rattle.vmd_format.specs.Records.{Bone}
 use Rattle.vmd_format.specs.Take.{Take, read-take}
 use Rattle.vmd_keys.specs.Names.{bone-names-of, morph-names-of, distinct}
-use Rattle.vmd_season.specs.Season.{SectionFigures, Season, no-section-figures, only-refused, no-takes, TakeFigures, figures-of, records-of, largest-figure, take-fits, with-count, with-take, with-refused, taken-if, with-answer, with-file, season-from, season, Mean, mean-if, mean}
+use Rattle.vmd_season.specs.Season.{SectionFigures, Season, no-section-figures, only-refused, no-takes, TakeFigures, figures-of, records-of, largest-figure, take-fits, with-count, with-take, with-refused, taken-if, with-answer, with-file, season-from, season, mean-if, mean}
 use Rattle.vmd_season.specs.Differ.{Differing, names, names-and-interpolation, DifferOnly, DifferEach, bone-without, camera-without, without-interpolation}
 use Rattle.vmd_season.specs.DifferLaws.{names-read, interpolations-read}
 
@@ -77,12 +77,6 @@ refused-stops z e =
 
 -- ---- smallest and largest
 
-abbrev pub first-figures : SectionFigures → ℕ → SectionFigures
-first-figures x n = record { total = x .total + n; smallest = n; largest = n }
-
-abbrev pub later-figures : SectionFigures → ℕ → SectionFigures
-later-figures x n = record { total = x .total + n; smallest = min (x .smallest) n; largest = max (x .largest) n }
-
 -- each section's figures with a take are these
 abbrev pub SectionsAre : (SectionFigures → ℕ → SectionFigures) → Season → TakeFigures → Season → Type 0
 SectionsAre g z f next =
@@ -90,14 +84,14 @@ SectionsAre g z f next =
     × (next .lights ≡ g (z .lights) (f .lights)) × (next .self-shadows ≡ g (z .self-shadows) (f .self-shadows))
     × (next .properties ≡ g (z .properties) (f .properties))
 
--- with none accepted the first take's counts are smallest and largest, whatever stood there
-pub first-sets : (z : Season) (f : TakeFigures) → z .accepted ≡ 0 → SectionsAre first-figures z f (with-take z f)
-unfolding with-take with-count
+-- with none accepted each section's smallest and largest are the take's count, whatever stood there
+pub first-sets : (z : Season) (f : TakeFigures) → z .accepted ≡ 0 → SectionsAre (with-count true) z f (with-take z f)
+unfolding with-take
 first-sets z f e = rw (eq-eqb (z .accepted) 0 e) (refl, refl, refl, refl, refl, refl)
 
--- with some, the smaller and the larger of both
-pub later-compares : (z : Season) (f : TakeFigures) → 0 < z .accepted → SectionsAre later-figures z f (with-take z f)
-unfolding with-take with-count
+-- with some they are the smaller and the larger of both
+pub later-compares : (z : Season) (f : TakeFigures) → 0 < z .accepted → SectionsAre (with-count false) z f (with-take z f)
+unfolding with-take
 later-compares z f h = rw (ne-eqb (z .accepted) 0 (λ e. omega arith)) (refl, refl, refl, refl, refl, refl)
 
 -- ---- takes that differ in nothing that counts

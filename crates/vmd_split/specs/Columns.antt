@@ -1,7 +1,7 @@
 -- Values written one after another, of one size and of any, and what stands at a place of them. Assumes nothing.
 use Prim.Native.Nat.{ℕ, zero, suc, _+_, _*_, _/_, _%_, _≤_, _<_}
 use mathlib.Core.Path.{_≡_, refl, ap, sym, _∙_}
-use mathlib.Core.List.{List, [], _∷_, _++_, map, append-assoc}
+use mathlib.Core.List.{List, [], _∷_, _++_, map, map-id, append-assoc}
 use native.Mathlib.Omega.{arith}
 use native.Mathlib.Nat.{add-zero, div-eq-of-eq-mul-right, mul-mod-right}
 use lib.ListN.{length, getD, take, drop, length-append}
@@ -52,10 +52,6 @@ numbered-from {A} {B} f g done (a ∷ rest) h =
 pub numbered : {A B : Type 0} (f : ℕ → B) (g : A → B) (rest : List A)
     → ((l : List A) (a : A) (m : List A) → rest ≡ l ++ (a ∷ m) → f (length l) ≡ g a) → map f (upto 0 (length rest)) ≡ map g rest
 numbered f g rest h = numbered-from f g [] rest h
-
-pub map-self : {A : Type 0} (l : List A) → map (λ a. a) l ≡ l
-map-self [] = refl
-map-self {A} (a ∷ l) = ap {B = List A} (λ r. a ∷ r) (map-self l)
 
 -- ---- values of one size
 
@@ -112,7 +108,7 @@ below-map k z f (a ∷ l) h zero = h .0
 below-map k z f (a ∷ l) h (suc i) = below-map k z f l (h .1) i
 
 pub below-all : (k : ℕ) → 0 < k → (l : List ℕ) → All (λ n. n < k) l → Below k l
-below-all k z l h i = rw (map-self l) at (below-map k z (λ n. n) l h i)
+below-all k z l h i = rw (map-id l) at (below-map k z (λ n. n) l h i)
 
 pub all-write : {A : Type 0} (P : ℕ → Type 0) (w : A → List ℕ) (l : List A) → All (λ a. All P (w a)) l → All P (write-all w l)
 unfolding write-all

@@ -1,7 +1,7 @@
 -- The parts of a take mean that take: what the builder reads from them is the take again.
 use Prim.Native.Nat.{ℕ, _<_}
 use mathlib.Core.Path.{_≡_, refl, ap, _∙_}
-use mathlib.Core.List.{List, [], _∷_, _++_, map}
+use mathlib.Core.List.{List, [], _∷_, _++_, map, map-id}
 use native.Mathlib.Omega.{arith}
 use lib.ListN.{length, getD, length-append, length-map}
 use Rattle.vmd_format.specs.Records.{Bone, Morph}
@@ -17,7 +17,7 @@ use Rattle.vmd_tables.specs.Tables.{name-table, name-indices}
 use Rattle.vmd_count.specs.DistinctLaws.{all-then}
 use Rattle.vmd_tables.specs.TableMeaning.{Tabled, tabled, indices-length, index-leads}
 use Rattle.vmd_split.specs.Split.{translation, rotation, parts-of-take}
-use Rattle.vmd_split.specs.Columns.{all-of, getD-seam, numbered, map-self, Wide, part-there, place-there, first-there, records-back, values-back}
+use Rattle.vmd_split.specs.Columns.{all-of, getD-seam, numbered, Wide, part-there, place-there, first-there, records-back, values-back}
 
 -- ---- names
 
@@ -108,9 +108,9 @@ pub parts-mean : (t : Take) → WellFormed t → take-of-parts (parts-of-take t)
 unfolding take-of-parts properties-of frames-or-none parts-of-take
 parts-mean t w =
     let bones : map (bone-at (parts-of-take t)) (upto 0 (length (parts-of-take t .bone-name-indices))) ≡ t .bones =
-    rw (bone-count t) (numbered (bone-at (parts-of-take t)) (λ b. b) (t .bones) (bone-there t (w .bones .1)) ∙ map-self (t .bones)) in
+    rw (bone-count t) (numbered (bone-at (parts-of-take t)) (λ b. b) (t .bones) (bone-there t (w .bones .1)) ∙ map-id (t .bones)) in
     let morphs : map (morph-at (parts-of-take t)) (upto 0 (length (parts-of-take t .morph-name-indices))) ≡ t .morphs =
-    rw (morph-count t) (numbered (morph-at (parts-of-take t)) (λ b. b) (t .morphs) (morph-there t) ∙ map-self (t .morphs)) in
+    rw (morph-count t) (numbered (morph-at (parts-of-take t)) (λ b. b) (t .morphs) (morph-there t) ∙ map-id (t .morphs)) in
     let properties : properties-of (parts-of-take t .properties) ≡ t .properties = ap frames-or-none (frames-back t w) in
     λ i. record {
       model = t .model;
