@@ -68,6 +68,11 @@ enum {
     VMD_SELF_SHADOWS = 4,
     VMD_PROPERTIES = 5,
 
+    /* in an opening's totals */
+    VMD_TOTAL_IK_STATES = 0,      /* the IK states of all property frames */
+    VMD_TOTAL_SMALLEST_FRAME = 1, /* over all six sections, 0 with no records */
+    VMD_TOTAL_LARGEST_FRAME = 2,  /* likewise */
+
     /* in a season's counts; to each the section's index is added */
     VMD_SEASON_SMALLEST = 0,
     VMD_SEASON_LARGEST = 6,
@@ -85,12 +90,16 @@ enum {
 
 /*
  * Checks a whole file. counts receives the number of records of each section, places where each section's records begin (the
- * file's length where its count is missing or it was emptied), totals the number of IK states and the largest frame (0 with
- * no records). scratch receives the byte position of each property frame, first places first; further places keep their
- * contents. Refusals: 1, 2, 3.
+ * file's length where its count is missing or it was emptied), totals the number of IK states, the smallest frame and the
+ * largest (VMD_TOTAL_.. above; both frames 0 with no records). scratch receives the byte position of each property frame,
+ * first places first; further places keep their contents. Refusals: 1, 2, 3.
+ *
+ * totals had two numbers before it had the smallest frame, and the largest was the second of them: a program that was
+ * compiled with such a header lends too short a slot and looks for the largest in another place, and has to be changed and
+ * compiled again.
  */
 uint32_t vmd_parse_animation(const uint8_t *file, size_t file_len, uint64_t *scratch, size_t scratch_len,
-                             uint32_t counts[6], uint64_t places[6], uint64_t totals[2]);
+                             uint32_t counts[6], uint64_t places[6], uint64_t totals[3]);
 
 /*
  * ---- records by number

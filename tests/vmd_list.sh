@@ -23,8 +23,8 @@ name() { printf %s "$1"; zeros $(($2 - ${#1})); }
 # an empty take with the counts that follow the start
 counts() { start; for n in "$@"; do u32 "$n"; done; }
 
-# one bone at frame 7
-bone() { start; u32 1; name center 15; u32 7; zeros 92; zeros 20; }
+# bones at these frames
+bones() { start; u32 $#; for frame in "$@"; do name center 15; u32 "$frame"; zeros 92; done; zeros 20; }
 
 # one property frame at frame 300 with two IK states, the first off and the second on
 property() { start; zeros 20; u32 1; u32 300; printf '\1'; u32 2; name left 20; printf '\0'; name right 20; printf '\1'; }
@@ -62,29 +62,31 @@ start | saved start 50
 counts 0 1 | saved start,0,1 58
 counts 0 0 1 | saved start,0,0,1 62
 counts 0 0 0 0 0 1 | saved start,0,0,0,0,0,1 74
-bone | saved one-bone 185
+bones 7 | saved one-bone 185
+bones 9 7 300 8 | saved four-bones 518
 property | saved two-ik-states 125
-{ bone; zeros 65351; } | saved 65536-bytes 65536
-{ bone; zeros 65352; } | saved 65537-bytes 65537
-{ bone; zeros 200000; } | saved longer 200185
+{ bones 7; zeros 65351; } | saved 65536-bytes 65536
+{ bones 7; zeros 65352; } | saved 65537-bytes 65537
+{ bones 7; zeros 200000; } | saved longer 200185
 { counts 0 0 0 0 0 7273; zeros 65462; } | saved 7273-properties 65536
 
-lists start,0 '0 0 0 0 0 0 0 0 74'
+lists start,0 '0 0 0 0 0 0 0 0 0 74'
 lists empty 'refused 1'
 lists 29-bytes 'refused 1'
 lists 30-bytes 'refused 2'
 lists start 'refused 1'
 lists start,0,byte 'refused 1'
 lists start,0,1 'refused 1'
-lists start,0,0,1 '0 0 0 0 0 0 0 0 74'
+lists start,0,0,1 '0 0 0 0 0 0 0 0 0 74'
 lists start,0,0,0,0,0,1 'refused 1'
-lists one-bone '1 0 0 0 0 0 0 7 185'
-lists two-ik-states '0 0 0 0 0 1 2 300 125'
-lists 65536-bytes '1 0 0 0 0 0 0 7 185'
+lists one-bone '1 0 0 0 0 0 0 7 7 185'
+lists four-bones '4 0 0 0 0 0 0 7 300 518'
+lists two-ik-states '0 0 0 0 0 1 2 300 300 125'
+lists 65536-bytes '1 0 0 0 0 0 0 7 7 185'
 lists 65537-bytes 'too long'
 lists longer 'too long'
 # as many property frames as fit: the scratch is enough
-lists 7273-properties '0 0 0 0 0 7273 0 0 65531'
+lists 7273-properties '0 0 0 0 0 7273 0 0 0 65531'
 
 # FILE SIZE..: the file's bytes in pieces of these sizes, and then the rest, with a pause before each
 pieces() {
@@ -98,8 +100,8 @@ pieces() {
     tail -c "+$((at + 1))" "$file"
 }
 
-pieces one-bone 1 2 29 20 1 60 | printed '1 0 0 0 0 0 0 7 185' 'one bone in pieces'
-pieces 65536-bytes 1 4095 4096 20000 | printed '1 0 0 0 0 0 0 7 185' '65,536 bytes in pieces'
+pieces one-bone 1 2 29 20 1 60 | printed '1 0 0 0 0 0 0 7 7 185' 'one bone in pieces'
+pieces 65536-bytes 1 4095 4096 20000 | printed '1 0 0 0 0 0 0 7 7 185' '65,536 bytes in pieces'
 pieces 65537-bytes 4097 20000 41439 | printed 'too long' '65,537 bytes in pieces, the last one byte'
 tried=$((tried + 3))
 

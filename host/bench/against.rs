@@ -47,7 +47,7 @@ fn ratios(call: Call, material: &Material, out: &mut [u8], [new, old]: [Run; 2],
     ratios
 }
 
-pub fn table(size: usize, batch: u32, [new, old]: [&str; 2]) {
+pub fn table(calls: &[Call], size: usize, batch: u32, [new, old]: [&str; 2]) {
     println!("\n## Against another build\n");
     println!(
         "Takes of {}, names of 4 to 10 bytes, buffers just touched. The time by this build as a multiple of the other's in the \
@@ -56,10 +56,10 @@ pub fn table(size: usize, batch: u32, [new, old]: [&str; 2]) {
     );
     head(["take", "call", "this / other", "half of the rounds", "at most 1.05"]);
     let builds = [new, old].map(load);
-    for kind in [Kind::Bones, Kind::Mixed] {
+    for kind in Kind::ALL {
         let material = Material::new(kind, Names::Padded, size);
         let mut out = material.output();
-        for call in Call::ALL {
+        for &call in calls {
             let ratios = ratios(call, &material, &mut out, builds, batch);
             let half = format!("{:.3} to {:.3}", quarter(ratios.clone(), 1), quarter(ratios.clone(), 3));
             let ratio = median(ratios);

@@ -191,7 +191,7 @@ fn full_size(size: usize, other: &Other) -> Measured {
     let calls = Call::ALL.map(|call| ["warm", "cold"].map(|state| format!("{}, {state}", call.name())));
     head(["take", "names"].into_iter().chain(calls.as_flattened().iter().map(String::as_str)));
     let mut all = Vec::new();
-    for kind in Kind::ALL {
+    for kind in Kind::USUAL {
         for names in Names::ALL {
             let times = Case::new(kind, names, size).times(effort(size), other);
             let cells = Call::ALL.map(|call| [&times.warm, &times.cold].map(|state| cell(state[call as usize].ratio())));
@@ -254,7 +254,7 @@ fn growth(sizes: &[usize], other: &Other) {
     let calls = Call::ALL.map(Call::name);
     let fetches = ["first fetch, ns", "last fetch, ns"];
     head(["take", "size", "copy, GB/s"].into_iter().chain(calls).chain(fetches));
-    for kind in Kind::ALL {
+    for kind in Kind::USUAL {
         for &size in sizes {
             let mut case = Case::new(kind, Names::Padded, size);
             let times = case.times(Effort { rounds: effort(size).rounds.min(9), original_rounds: 0, ..effort(size) }, other);
@@ -301,7 +301,7 @@ fn memory(size: usize) {
     );
     let calls = Call::ALL.len() + Original::BUILT.len();
     head(["take"].into_iter().chain(Call::ALL.map(Call::name)).chain(Original::BUILT.iter().map(|call| call.name())));
-    for (kind, of) in Kind::ALL.iter().enumerate() {
+    for (kind, of) in Kind::USUAL.iter().enumerate() {
         let cells = (0..calls).map(|call| {
             let words = [kind, size, call].map(|word| word.to_string());
             let done = Command::new(std::env::current_exe().unwrap()).arg("--memory").args(words).output().unwrap();
@@ -314,7 +314,7 @@ fn memory(size: usize) {
 /// One figure of that table: the kind, the size and the call by their numbers, the original's after the library's.
 fn memory_of(words: &[String]) {
     let [kind, size, call] = [0, 1, 2].map(|k| words[k].parse::<usize>().unwrap());
-    let mut case = Case::new(Kind::ALL[kind], Names::Padded, size);
+    let mut case = Case::new(Kind::USUAL[kind], Names::Padded, size);
     case.copy(Call::Open);
     let kib = match Call::ALL.get(call) {
         Some(&call) => risen(|| case.run(call)),
@@ -342,9 +342,10 @@ fn main() {
     match words {
         [] => {}
         [option, rest @ ..] if option == "--memory" => return memory_of(rest),
-        [option, new, old] if option == "--against" => {
+        [option, new, old] if option == "--against" || option == "--opening" => {
             println!("Measured by `./bench` on {}.", machine());
-            return against::table(full, effort(full).batch, [new, old]);
+            let calls = if option == "--opening" { &[Call::Open][..] } else { &Call::ALL };
+            return against::table(calls, full, effort(full).batch, [new, old]);
         }
         [option] if option == "--split" => {
             println!("Measured by `./bench` on {}.", machine());
@@ -360,7 +361,8 @@ fn main() {
         }
         _ => {
             eprintln!(
-                "bench: the options are --quick, which measures small takes, --split, --season, --names and --against LIBRARY"
+                "bench: the options are --quick, which measures small takes, --split, --season, --names, --against LIBRARY and \
+                 --opening LIBRARY"
             );
             std::process::exit(2);
         }

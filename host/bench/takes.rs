@@ -7,26 +7,31 @@ pub enum Kind {
     Bones,
     Mixed,
     Morphs,
+    Properties,
 }
 
 impl Kind {
-    pub const ALL: [Kind; 3] = [Kind::Bones, Kind::Mixed, Kind::Morphs];
+    pub const ALL: [Kind; 4] = [Kind::Bones, Kind::Mixed, Kind::Morphs, Kind::Properties];
+    /// Those that shows have.
+    pub const USUAL: [Kind; 3] = [Kind::Bones, Kind::Mixed, Kind::Morphs];
 
     pub fn name(self) -> &'static str {
         match self {
             Kind::Bones => "bones",
             Kind::Mixed => "60% bones, 30% morphs, 10% cameras",
             Kind::Morphs => "morphs",
+            Kind::Properties => "property frames",
         }
     }
 
-    /// How many bones, morphs and cameras make up so many bytes.
-    fn counts(self, size: usize) -> [usize; 3] {
+    /// How many bones, morphs, cameras and property frames make up so many bytes.
+    fn counts(self, size: usize) -> [usize; 4] {
         let size = size - 74;
         match self {
-            Kind::Bones => [size / 111, 0, 0],
-            Kind::Mixed => [size * 6 / 10 / 111, size * 3 / 10 / 23, size / 10 / 61],
-            Kind::Morphs => [0, size / 23, 0],
+            Kind::Bones => [size / 111, 0, 0, 0],
+            Kind::Mixed => [size * 6 / 10 / 111, size * 3 / 10 / 23, size / 10 / 61, 0],
+            Kind::Morphs => [0, size / 23, 0, 0],
+            Kind::Properties => [0, 0, 0, size / 9],
         }
     }
 }
@@ -143,6 +148,7 @@ pub struct Columns {
     pub name_bytes: Vec<u8>,
     pub name_ends: Vec<u32>,
     pub cameras: Vec<u8>,
+    pub properties: Vec<u8>,
     pub bone_indices: Vec<u32>,
     pub bone_frames: Vec<u32>,
     pub translations: Vec<f32>,
@@ -200,6 +206,7 @@ impl Material {
             morph_name_bytes: &c.name_bytes,
             morph_name_ends: &c.name_ends,
             camera_frames: &c.cameras,
+            property_frames: &c.properties,
             bone_name_indices: &c.bone_indices,
             bone_frames: &c.bone_frames,
             bone_translations_xyz: &c.translations,
@@ -213,7 +220,7 @@ impl Material {
     }
 }
 
-fn columns([bones, morphs, cameras]: [usize; 3], names: Names) -> Columns {
+fn columns([bones, morphs, cameras, properties]: [usize; 4], names: Names) -> Columns {
     let mut random = Random(2_463_534_242);
     let mut c = Columns::default();
     let table = table(bones.max(morphs));
@@ -240,6 +247,10 @@ fn columns([bones, morphs, cameras]: [usize; 3], names: Names) -> Columns {
         c.cameras.extend(30u32.to_le_bytes());
         c.cameras.push((i % 3) as u8);
     }
+    for i in 0..properties {
+        c.properties.extend((i as u32).to_le_bytes());
+        c.properties.extend([1, 0, 0, 0, 0]); // visible, and no IK states: the most frames for the bytes
+    }
     c
 }
 
@@ -253,7 +264,7 @@ pub fn with_names(kind: Kind, names: usize, order: Order, size: usize) -> Vec<u8
 
 /// A take of so many bones or morphs, each with a name of its own. The names' bytes rise with their numbers.
 pub fn all_different(kind: Kind, order: Order, records: usize) -> Vec<u8> {
-    let counts = if kind == Kind::Bones { [records, 0, 0] } else { [0, records, 0] };
+    let counts = if kind == Kind::Bones { [records, 0, 0, 0] } else { [0, records, 0, 0] };
     let mut c = columns(counts, Names::Padded);
     c.bone_indices = order.indices(counts[0], records);
     c.morph_indices = order.indices(counts[1], records);
@@ -269,7 +280,8 @@ fn file(c: &Columns, names: Names) -> Vec<u8> {
 fn file_with(c: &Columns, fields: &[[u8; 15]]) -> Vec<u8> {
     let mut file = b"Vocaloid Motion Data 0002\0\0\0\0\0dancer".to_vec();
     file.resize(50, 0);
-    file.reserve_exact(24 + 111 * c.bone_frames.len() + 23 * c.morph_frames.len() + c.cameras.len());
+    let records = 111 * c.bone_frames.len() + 23 * c.morph_frames.len() + c.cameras.len() + c.properties.len();
+    file.reserve_exact(24 + records);
     file.extend((c.bone_frames.len() as u32).to_le_bytes());
     for i in 0..c.bone_frames.len() {
         file.extend(fields[c.bone_indices[i] as usize]);
@@ -286,6 +298,8 @@ fn file_with(c: &Columns, fields: &[[u8; 15]]) -> Vec<u8> {
     }
     file.extend((c.cameras.len() as u32 / 61).to_le_bytes());
     file.extend(&c.cameras);
-    file.extend([0; 12]);
+    file.extend([0; 8]);
+    file.extend((c.properties.len() as u32 / 9).to_le_bytes());
+    file.extend(&c.properties);
     file
 }

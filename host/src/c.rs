@@ -3,7 +3,7 @@
 //! What makes the calls sound: slices and references of Rust are aligned and good for their length, a `&mut` overlaps nothing
 //! else, and the slots have the lengths that the header gives: their types are the declared ones. That a call stays inside
 //! what it was lent, and writes all of the bytes it says it has written, is proved of the library.
-use crate::header::{self, sizes};
+use crate::header::{self, indices, sizes};
 use crate::parts::{OwnedParts, Parts, PartsMut, TableSizes};
 use crate::refusal::{Error, Refusal};
 use crate::take::Take;
@@ -13,8 +13,8 @@ use crate::take::Take;
 pub struct Opening {
     pub counts: [u32; 6],
     pub places: [u64; 6],
-    /// The number of IK states, and the largest frame.
-    pub totals: [u64; 2],
+    /// The number of IK states, the smallest frame and the largest.
+    pub totals: [u64; 3],
 }
 
 /// The fetches of a section, as safe functions: `record` words by number, and `part`s of the file by number.
@@ -86,7 +86,7 @@ fn written(size: u64, write: impl FnOnce(*mut u8, usize, *mut u64) -> u32) -> Re
 }
 
 pub fn open(file: &[u8], scratch: &mut [u64]) -> Result<Opening, Refusal> {
-    let mut o = Opening { counts: [0; 6], places: [0; 6], totals: [0; 2] };
+    let mut o = Opening { counts: [0; 6], places: [0; 6], totals: [0; 3] };
     // SAFETY: two slices, and the three arrays of an opening of this function's own.
     answered(unsafe {
         header::vmd_parse_animation(
@@ -291,7 +291,7 @@ const BONE_INTERPOLATION: u64 = 64;
 fn lengths(opening: &Opening, tables: TableSizes) -> [u64; 16] {
     let TableSizes { bone_names, bone_name_bytes, morph_names, morph_name_bytes } = tables;
     let [b, m, c, l, s, p] = opening.counts.map(u64::from);
-    let [k, _] = opening.totals;
+    let k = opening.totals[indices::VMD_TOTAL_IK_STATES];
     [
         bone_name_bytes,
         bone_names,
@@ -454,7 +454,7 @@ mod tests {
     fn tables_that_are_lent() {
         let mut file = b"Vocaloid Motion Data 0002".to_vec();
         file.resize(54, 0);
-        let opening = |bones, morphs| Opening { counts: [bones, morphs, 0, 0, 0, 0], places: [0; 6], totals: [0; 2] };
+        let opening = |bones, morphs| Opening { counts: [bones, morphs, 0, 0, 0, 0], places: [0; 6], totals: [0; 3] };
         let most = u32::MAX / 15;
         let lent = tables_to_lend(&file, &opening(7, most)).unwrap();
         let expected = table_sizes([7, 105, most.into(), u32::MAX.into()]);

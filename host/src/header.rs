@@ -1,6 +1,6 @@
 //! The functions of include/vmd.h, its sizes of records and its indices, declared for Rust. This is the only such
-//! declaration: the crate has it, and the comparison with the original (oracle/) takes this file. tests/interface.rs holds it
-//! to the header, parameter by parameter.
+//! declaration: the crate has it, and the comparison with the original (oracle/) and the benchmark take this file.
+//! tests/interface.rs holds it to the header, parameter by parameter.
 
 /// Bytes of each record in a file.
 #[allow(dead_code)] // each user needs some of them
@@ -14,7 +14,7 @@ pub mod sizes {
     pub const VMD_IK_STATE_SIZE: u64 = 21;
 }
 
-/// Where a section, and each of a season's figures, stands in the arrays that have them.
+/// Where a section, each of an opening's totals and each of a season's figures stands in the arrays that have them.
 #[allow(dead_code)] // each user needs some of them
 pub mod indices {
     pub const VMD_BONES: usize = 0;
@@ -23,6 +23,11 @@ pub mod indices {
     pub const VMD_LIGHTS: usize = 3;
     pub const VMD_SELF_SHADOWS: usize = 4;
     pub const VMD_PROPERTIES: usize = 5;
+
+    // an opening's totals
+    pub const VMD_TOTAL_IK_STATES: usize = 0;
+    pub const VMD_TOTAL_SMALLEST_FRAME: usize = 1;
+    pub const VMD_TOTAL_LARGEST_FRAME: usize = 2;
 
     // a season's counts, each with the section's index added
     pub const VMD_SEASON_SMALLEST: usize = 0;
@@ -42,7 +47,7 @@ pub mod indices {
 unsafe extern "C" {
     pub fn vmd_parse_animation(
         file: *const u8, file_len: usize, scratch: *mut u64, scratch_len: usize, counts: *mut [u32; 6],
-        places: *mut [u64; 6], totals: *mut [u64; 2],
+        places: *mut [u64; 6], totals: *mut [u64; 3],
     ) -> u32;
     pub fn vmd_bone_frame(
         file: *const u8, file_len: usize, counts: *const [u32; 6], places: *const [u64; 6], i: usize,

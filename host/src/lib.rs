@@ -18,7 +18,7 @@
 //!
 //! let take = vmd::Take::open(&file)?;
 //! assert_eq!(take.model_name(), b"dancer");
-//! assert_eq!(take.largest_frame(), 90);
+//! assert_eq!((take.smallest_frame(), take.largest_frame()), (90, 90));
 //! let leg = take.ik_state(0, 0).unwrap();
 //! assert_eq!((leg.name, leg.enabled), (&b"leg"[..], false));
 //!

@@ -25,8 +25,8 @@ const HELP: &str = "\
 vmd: VMD takes (MikuMikuDance motion files)
 
   vmd list FILE..                 a line for each take: bones, morphs, cameras, lights, self-shadows, properties, IK states,
-                                  largest frame, export length; or 'refused' and the number of the refusal. With several
-                                  files each line has the file's name and ': ' before it
+                                  smallest frame, largest frame, export length; or 'refused' and the number of the refusal.
+                                  With several files each line has the file's name and ': ' before it
   vmd export IN -o OUT            saves a take in canonical form
   vmd join FIRST SECOND.. -o OUT  joins takes from left to right: in every section the records of each, one after another
   vmd season FILE..               figures over all takes together, one figure a line: the figure's name, ': ' and the
@@ -191,7 +191,7 @@ fn list(words: &Words) -> Result<u8, Failure> {
 fn line(file: &[u8]) -> Result<String, Error> {
     let take = Take::open(file)?;
     Ok(format!(
-        "{} {} {} {} {} {} {} {} {}",
+        "{} {} {} {} {} {} {} {} {} {}",
         take.bones(),
         take.morphs(),
         take.cameras(),
@@ -199,6 +199,7 @@ fn line(file: &[u8]) -> Result<String, Error> {
         take.self_shadows(),
         take.properties(),
         take.ik_states(),
+        take.smallest_frame(),
         take.largest_frame(),
         vmd::export_size(file)?
     ))

@@ -72,7 +72,8 @@ pub struct Parts<'a> {
 /// assert_eq!(parts.build()?, vmd::export(&file)?);
 ///
 /// parts.morph_frames.iter_mut().for_each(|frame| *frame += 15); // half a second later
-/// assert_eq!(vmd::Take::open(parts.build()?)?.largest_frame(), 75);
+/// let later = vmd::Take::open(parts.build()?)?;
+/// assert_eq!((later.smallest_frame(), later.largest_frame()), (15, 75));
 /// # Ok::<(), vmd::Error>(())
 /// ```
 ///

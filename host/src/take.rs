@@ -1,6 +1,7 @@
 use std::borrow::Cow;
 
 use crate::c;
+use crate::header::indices::{VMD_TOTAL_IK_STATES, VMD_TOTAL_LARGEST_FRAME, VMD_TOTAL_SMALLEST_FRAME};
 use crate::parts::OwnedParts;
 use crate::refusal::{Error, Refusal};
 
@@ -244,12 +245,17 @@ impl<'a> Take<'a> {
 
     /// The number of IK states, over all property frames.
     pub fn ik_states(&self) -> u64 {
-        self.opening.totals[0]
+        self.opening.totals[VMD_TOTAL_IK_STATES]
+    }
+
+    /// The smallest frame over all six sections, 0 with no records.
+    pub fn smallest_frame(&self) -> u32 {
+        self.opening.totals[VMD_TOTAL_SMALLEST_FRAME] as u32
     }
 
     /// The largest frame over all six sections, 0 with no records.
     pub fn largest_frame(&self) -> u32 {
-        self.opening.totals[1] as u32
+        self.opening.totals[VMD_TOTAL_LARGEST_FRAME] as u32
     }
 
     /// The model name.

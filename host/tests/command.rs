@@ -8,7 +8,7 @@ use std::os::unix::ffi::OsStrExt;
 use std::os::unix::process::CommandExt;
 use std::process::{Command, Output, Stdio};
 
-use common::{Folder, bones, counts, err, out, start, status, vmd, vmd_under, vmd_with};
+use common::{Folder, at_frames, bones, counts, err, out, start, status, vmd, vmd_under, vmd_with};
 
 /// The output of a command that reads these bytes on its standard input.
 fn given(command: &mut Command, input: &[u8]) -> Output {
@@ -34,17 +34,20 @@ fn property() -> Vec<u8> {
 #[test]
 fn lists_a_take_in_one_line() {
     let folder = Folder::new("list");
+    let sections = at_frames([1, 3, 4, 5, 6, 7].map(|n| (20..20 + n).rev().collect()));
     for (file, line, expected) in [
-        (counts(&[0]), "0 0 0 0 0 0 0 0 74", 0),
+        (counts(&[0]), "0 0 0 0 0 0 0 0 0 74", 0),
         (vec![], "refused 1", 1),
         (vec![0x41; 29], "refused 1", 1),
         (vec![0x41; 30], "refused 2", 1),
         (start(), "refused 1", 1),
         (counts(&[0, 1]), "refused 1", 1),
-        (counts(&[0, 0, 1]), "0 0 0 0 0 0 0 0 74", 0),
-        (bones(1, 1), "1 0 0 0 0 0 0 0 185", 0),
-        (property(), "0 0 0 0 0 1 2 300 125", 0),
-        (bones(2000, 1), "2000 0 0 0 0 0 0 1999 222074", 0),
+        (counts(&[0, 0, 1]), "0 0 0 0 0 0 0 0 0 74", 0),
+        (bones(1, 1), "1 0 0 0 0 0 0 0 0 185", 0),
+        (property(), "0 0 0 0 0 1 2 300 300 125", 0),
+        (bones(2000, 1), "2000 0 0 0 0 0 0 0 1999 222074", 0),
+        (at_frames([vec![], vec![u32::MAX], vec![], vec![], vec![], vec![]]), "0 1 0 0 0 0 0 4294967295 4294967295 97", 0),
+        (vmd::join(&property(), &sections).unwrap(), "1 3 4 5 6 8 2 20 300 806", 0),
     ] {
         let path = folder.file("take", &file);
         let listed = vmd().arg("list").arg(&path).output().unwrap();
@@ -60,7 +63,7 @@ fn lists_several_with_their_names() {
     let folder = Folder::new("several");
     let (good, bad) = (folder.file("good", &bones(1, 1)), folder.file("bad", &start()));
     let listed = vmd().arg("list").args([&good, &bad, &good]).output().unwrap();
-    let line = format!("{}: 1 0 0 0 0 0 0 0 185\n", good.display());
+    let line = format!("{}: 1 0 0 0 0 0 0 0 0 185\n", good.display());
     assert_eq!(out(&listed), format!("{line}{}: refused 1\n{line}", bad.display()));
     assert_eq!(err(&listed), format!("vmd: {}: refused 1: the file ends early\n", bad.display()));
     assert_eq!(status(&listed), 1);
@@ -312,6 +315,7 @@ fn usage() {
     assert_eq!((status(&help), err(&help)), (0, String::new()));
     for word in [
         "vmd list FILE..",
+        "smallest frame, largest frame, export length",
         "vmd export IN -o OUT",
         "vmd join FIRST SECOND.. -o OUT",
         "vmd season FILE..",
@@ -366,7 +370,7 @@ fn files_that_look_like_options() {
     folder.file("--help", &two);
     let run = |words: &[&str]| given(vmd().current_dir(&folder.0).args(words), &two);
     let listed = run(&["list", "--", "-o", "--help", "-"]);
-    let lines = "-o: 1 0 0 0 0 0 0 0 185\n--help: 2 0 0 0 0 0 0 1 296\nstandard input: 2 0 0 0 0 0 0 1 296\n";
+    let lines = "-o: 1 0 0 0 0 0 0 0 0 185\n--help: 2 0 0 0 0 0 0 0 1 296\nstandard input: 2 0 0 0 0 0 0 0 1 296\n";
     assert_eq!((status(&listed), out(&listed)), (0, lines.into()));
     let done = run(&["join", "-o", "out", "--", "-o", "--help"]);
     assert_eq!((status(&done), err(&done)), (0, String::new()));
@@ -381,7 +385,7 @@ fn files_that_look_like_options() {
 fn names_that_are_no_line() {
     let folder = Folder::new("names");
     let take = bones(1, 1);
-    let line = "1 0 0 0 0 0 0 0 185";
+    let line = "1 0 0 0 0 0 0 0 0 185";
     let names: [(&[u8], &str); 5] = [
         (b"a\nb", r"a\nb"),
         (br"a\nb", r"a\\nb"),

@@ -132,7 +132,7 @@ fn sizes_and_indices_are_those_of_the_header() {
         (name.split_once(':').unwrap().0, number)
     });
     assert_eq!(declared.collect::<Vec<_>>(), named);
-    assert_eq!(named.len(), 7 + 6 + 2 + 6);
+    assert_eq!(named.len(), 7 + 6 + 3 + 2 + 6);
 }
 
 // ---- functions

@@ -8,7 +8,7 @@ use std::ops::Range;
 use std::path::Path;
 use std::thread;
 
-use common::{bones, counts, start};
+use common::{at_frames, bones, counts, start};
 use vmd::{Error, Figures, Mean, NameTable, OwnedParts, Parts, PartsMut, Refusal, Season, TableSizes, Take};
 
 /// Records as a file has them, with a value of its own in every field.
@@ -89,7 +89,7 @@ fn every_field_is_read() {
     let take = Take::open(&file).unwrap();
     let found = (take.bones(), take.morphs(), take.cameras(), take.lights(), take.self_shadows(), take.properties());
     assert_eq!(found, (2, 1, 2, 1, 1, 2));
-    assert_eq!((take.ik_states(), take.largest_frame()), (2, 15));
+    assert_eq!((take.ik_states(), take.smallest_frame(), take.largest_frame()), (2, 7, 15));
     assert_eq!(take.model_name(), b"model");
     assert_eq!(take.file(), file);
 
@@ -354,6 +354,101 @@ fn parts_that_are_refused() {
     assert_eq!(refused(Parts { bone_name_indices: &[1], ..good }), 12);
     assert_eq!(vmd::first_fault(b"\x83\x41\xA0"), 2);
     assert_eq!(vmd::first_fault(b"arm"), 3);
+}
+
+// ---- smallest and largest frame
+
+/// The smallest frame, and the largest.
+fn smallest_and_largest(file: &[u8]) -> (u32, u32) {
+    let take = Take::open(file).unwrap();
+    (take.smallest_frame(), take.largest_frame())
+}
+
+/// A take with records at these frames in one section, and none in the others.
+fn in_section(section: usize, frames: &[u32]) -> Vec<u8> {
+    at_frames(array::from_fn(|k| if k == section { frames.to_vec() } else { vec![] }))
+}
+
+#[test]
+fn frames_of_one_section() {
+    for none in [counts(&[0]), counts(&[0; 6])] {
+        assert_eq!(smallest_and_largest(&none), (0, 0));
+    }
+    for section in 0..6 {
+        let own = 7 + section as u32;
+        for (frames, expected) in [
+            (&[own][..], (own, own)),
+            (&[0], (0, 0)),
+            (&[u32::MAX], (u32::MAX, u32::MAX)), // no sign of a take without records
+            (&[5, 9, 8], (5, 9)),
+            (&[9, 5, 8], (5, 9)),
+            (&[8, 9, 5], (5, 9)),
+            (&[u32::MAX, 0], (0, u32::MAX)),
+            (&[0x0100, 0xFF], (0xFF, 0x0100)),
+            (&[0x8000_0000, 0x7FFF_FFFF], (0x7FFF_FFFF, 0x8000_0000)), // without a sign
+        ] {
+            assert_eq!(smallest_and_largest(&in_section(section, frames)), expected, "section {section}: {frames:?}");
+        }
+        // in every place of a longer section
+        for at in 0..40 {
+            for frame in [5, 999] {
+                let mut frames: Vec<u32> = (100..140).collect();
+                frames[at] = frame;
+                let expected = (*frames.iter().min().unwrap(), *frames.iter().max().unwrap());
+                assert_eq!(smallest_and_largest(&in_section(section, &frames)), expected, "section {section}: {frames:?}");
+            }
+        }
+    }
+}
+
+/// One record in each section, of which each in turn has the smallest frame, and each other the largest.
+#[test]
+fn frames_of_six_sections() {
+    for smallest in 0..6 {
+        for largest in (0..6).filter(|largest| *largest != smallest) {
+            let mut frames = [50, 51, 52, 53, 54, 55];
+            frames[smallest] = 5;
+            frames[largest] = 500;
+            let file = at_frames(frames.map(|frame| vec![frame]));
+            assert_eq!(smallest_and_largest(&file), (5, 500), "{frames:?}");
+        }
+    }
+}
+
+/// The records of a section that was emptied do not count, nor does what follows them: the file ends one byte before the end
+/// of its self-shadow, its light and its camera.
+#[test]
+fn frames_of_emptied_sections() {
+    let file = at_frames([60, 50, 40, 30, 20, 10].map(|frame| vec![frame]));
+    for (len, smallest) in [(file.len(), 10), (301, 30), (288, 40), (256, 50)] {
+        assert_eq!(smallest_and_largest(&file[..len]), (smallest, 60), "{len} bytes");
+    }
+}
+
+/// The smaller and the larger of two takes' frames, whichever is first. A take without records does not count, one with a
+/// record at frame 0 does.
+#[test]
+fn frames_of_a_join() {
+    let none = counts(&[0; 6]);
+    for (i, j) in (0..36).map(|n| (n / 6, n % 6)) {
+        let (low, high) = (in_section(i, &[20, 7, 12]), in_section(j, &[40, 90, 30]));
+        let (zero, last) = (in_section(i, &[0]), in_section(j, &[u32::MAX]));
+        for (first, second, expected) in [
+            (&low, &high, (7, 90)),
+            (&low, &last, (7, u32::MAX)),
+            (&zero, &high, (0, 90)),
+            (&none, &low, (7, 20)),
+            (&none, &high, (30, 90)),
+            (&none, &zero, (0, 0)),
+            (&none, &last, (u32::MAX, u32::MAX)),
+            (&none, &none, (0, 0)),
+        ] {
+            for (first, second) in [(first, second), (second, first)] {
+                let joined = vmd::join(first, second).unwrap();
+                assert_eq!(smallest_and_largest(&joined), expected, "sections {i} and {j}");
+            }
+        }
+    }
 }
 
 // ---- parts out of a take
@@ -680,12 +775,7 @@ fn season_of<'f>(files: impl IntoIterator<Item = &'f [u8]>) -> Season {
 
 /// A take of so many records of each section, all of zeros: it has one bone name and one morph name.
 fn zeros(counts: [u32; 6]) -> Vec<u8> {
-    let mut file = start();
-    for (count, size) in counts.into_iter().zip([111, 23, 61, 28, 9, 9]) {
-        file.extend(count.to_le_bytes());
-        file.resize(file.len() + count as usize * size, 0);
-    }
-    file
+    at_frames(counts.map(|count| vec![0; count as usize]))
 }
 
 /// What the figures are, from the takes as the crate reads them.

@@ -6,6 +6,7 @@
 #define EXPECT_H
 
 #include "take.h"
+#include "vmd.h"
 
 enum { MOST_FRAMES = 2048 };
 
@@ -14,15 +15,42 @@ static const size_t record_sizes[SECTIONS] = {111, 23, 61, 28, 9, 9};
 struct opening {
     uint32_t counts[SECTIONS];
     uint64_t places[SECTIONS];
-    uint64_t totals[2]; /* IK states, largest frame */
+    uint64_t totals[3]; /* VMD_TOTAL_.. */
     size_t n_frames;
     uint64_t frames[MOST_FRAMES]; /* where each property frame begins */
 };
 
-static inline void larger(uint64_t *largest, uint32_t frame)
+static inline uint64_t records_of(const struct opening *o)
 {
-    if (frame > *largest)
-        *largest = frame;
+    uint64_t n = 0;
+    size_t s;
+    for (s = 0; s < SECTIONS; s++)
+        n += o->counts[s];
+    return n;
+}
+
+static inline uint64_t smaller(uint64_t a, uint64_t b)
+{
+    return a < b ? a : b;
+}
+
+static inline uint64_t larger(uint64_t a, uint64_t b)
+{
+    return a > b ? a : b;
+}
+
+/* The smallest and the largest frame of the counted records. No value stands for none: the first record sets both. */
+static inline void expected_frames(const uint8_t *file, struct opening *o)
+{
+    uint64_t n = 0, *smallest = &o->totals[VMD_TOTAL_SMALLEST_FRAME], *largest = &o->totals[VMD_TOTAL_LARGEST_FRAME];
+    size_t s, i;
+    for (s = 0; s < SECTIONS; s++)
+        for (i = 0; i < o->counts[s]; i++, n++) {
+            uint64_t at = s == 5 ? o->frames[i] : o->places[s] + record_sizes[s] * i;
+            uint32_t frame = u32_at(file + at + (s < 2 ? 15 : 0));
+            *smallest = n == 0 ? frame : smaller(frame, *smallest);
+            *largest = n == 0 ? frame : larger(frame, *largest);
+        }
 }
 
 /* The refusal, or 0 and the opening. */
@@ -53,13 +81,12 @@ static inline uint32_t expected_opening(const uint8_t *file, size_t len, struct 
         }
         o->counts[s] = count;
         o->places[s] = at;
+        if (s < 5) {
+            at += count * record_sizes[s];
+            continue;
+        }
         for (i = 0; i < count; i++) {
             uint32_t states;
-            if (s < 5) {
-                larger(&o->totals[1], u32_at(file + at + (s < 2 ? 15 : 0)));
-                at += record_sizes[s];
-                continue;
-            }
             if (len - at < 9)
                 return 1;
             if (i == MOST_FRAMES) {
@@ -67,7 +94,6 @@ static inline uint32_t expected_opening(const uint8_t *file, size_t len, struct 
                 exit(2);
             }
             o->frames[i] = at;
-            larger(&o->totals[1], u32_at(file + at));
             states = u32_at(file + at + 5);
             at += 9;
             for (j = 0; j < states; j++) {
@@ -75,10 +101,11 @@ static inline uint32_t expected_opening(const uint8_t *file, size_t len, struct 
                     return 1;
                 at += 21;
             }
-            o->totals[0] += states;
+            o->totals[VMD_TOTAL_IK_STATES] += states;
         }
     }
     o->n_frames = o->counts[5];
+    expected_frames(file, o);
     return 0;
 }
 

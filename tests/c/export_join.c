@@ -6,6 +6,7 @@
  */
 #include "check.h"
 #include "expect.h"
+#include "open.h"
 #include "readback.h"
 #include "vmd.h"
 
@@ -373,6 +374,69 @@ static void legs_stay_off(void)
     field_by_field(&both, out.at, out.len);
 }
 
+/* ---- what opening a join gives: the smaller of the two smallest frames, the larger of the two largest */
+
+/* Two takes, each with its records in any one section, in both orders. One without records does not count. */
+static void joined_frames(void)
+{
+    static const struct {
+        size_t n[2];
+        uint32_t frames[2][2];
+        uint64_t smallest, largest;
+    } rows[] = {
+        {{0, 0}, {{0}, {0}}, 0, 0},
+        {{1, 0}, {{0}, {0}}, 0, 0},
+        {{2, 0}, {{9, 5}, {0}}, 5, 9},
+        {{1, 0}, {{0xFFFFFFFF}, {0}}, 0xFFFFFFFF, 0xFFFFFFFF},
+        {{1, 1}, {{0xFFFFFFFF}, {0xFFFFFFFF}}, 0xFFFFFFFF, 0xFFFFFFFF},
+        {{1, 1}, {{0xFFFFFFFF}, {4}}, 4, 0xFFFFFFFF},
+        {{2, 2}, {{5, 9}, {7, 3}}, 3, 9},
+        {{2, 2}, {{5, 9}, {7, 6}}, 5, 9},
+        {{2, 2}, {{5, 9}, {3, 1}}, 1, 9},
+        {{2, 1}, {{0, 9}, {8}}, 0, 9},
+    };
+    size_t k, i;
+    int sections[2], take;
+    for (k = 0; k < sizeof rows / sizeof *rows; k++)
+        for (sections[0] = 0; sections[0] < SECTIONS; sections[0]++)
+            for (sections[1] = 0; sections[1] < SECTIONS; sections[1]++) {
+                struct bytes files[2], out;
+                for (take = 0; take < 2; take++) {
+                    struct take t = one_section_take(sections[take], rows[k].n[take]);
+                    for (i = 0; i < rows[k].n[take]; i++)
+                        *frame_of(&t, sections[take], i) = rows[k].frames[take][i];
+                    encode(&files[take], &t, RAW);
+                }
+                for (take = 0; take < 2; take++) {
+                    trial("frames of row %zu in sections %d and %d, take %d first", k, sections[0], sections[1], take);
+                    join(&files[take], &files[1 - take], &out);
+                    try_frames(&out, rows[k].smallest, rows[k].largest);
+                }
+            }
+}
+
+/* Each sample with each, so in both orders too. What is expected of opening the two tells it. */
+static void frames_of_joined_samples(void)
+{
+    enum { SMALLEST = VMD_TOTAL_SMALLEST_FRAME, LARGEST = VMD_TOTAL_LARGEST_FRAME };
+    size_t k, l;
+    for (k = 0; k < n_samples; k++)
+        for (l = 0; l < n_samples; l++) {
+            const struct bytes *first = &samples[k].file, *second = &samples[l].file;
+            struct opening o, p;
+            struct bytes out;
+            expected_opening(first->at, first->len, &o);
+            expected_opening(second->at, second->len, &p);
+            if (records_of(&o) == 0)
+                o = p;
+            if (records_of(&p) == 0)
+                p = o;
+            trial("frames of %s joined with %s", samples[k].name, samples[l].name);
+            join(first, second, &out);
+            try_frames(&out, smaller(o.totals[SMALLEST], p.totals[SMALLEST]), larger(o.totals[LARGEST], p.totals[LARGEST]));
+        }
+}
+
 /* ---- the joined model name */
 
 static void joined_models(void)
@@ -504,6 +568,8 @@ int main(void)
     bare_take();
     written_forms();
     legs_stay_off();
+    joined_frames();
+    frames_of_joined_samples();
     joined_models();
     refusals();
     cut_anywhere();

@@ -24,12 +24,12 @@ static inline void expect_words(const char *what, const uint32_t *got, const uin
 static inline void field_by_field(const struct take *t, const uint8_t *file, size_t len)
 {
     uint32_t counts[6], record[10], enabled;
-    uint64_t places[6], totals[2], scratch[MOST], part[2];
+    uint64_t places[6], totals[3], scratch[MOST], part[2];
     size_t i, j, s;
     expect_number("parse_animation", vmd_parse_animation(file, len, scratch, t->counts[5], counts, places, totals), VMD_OK);
     for (s = 0; s < SECTIONS; s++)
         expect_number("count", counts[s], t->counts[s]);
-    expect_number("IK states", totals[0], states_of(t));
+    expect_number("IK states", totals[VMD_TOTAL_IK_STATES], states_of(t));
     vmd_model_name(file, len, part);
     expect_name("model name", file, part, &t->model);
     for (i = 0; i < t->counts[0]; i++) {

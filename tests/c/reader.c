@@ -1,55 +1,13 @@
 /* Opening, records by number, names and interpolation bytes, through the C interface. */
 #include "check.h"
 #include "expect.h"
+#include "open.h"
 #include "readback.h"
 #include "vmd.h"
 
 #include <math.h>
 
-static struct fence lent_file, lent_scratch, lent_counts, lent_places, lent_totals, lent_slot, lent_values;
-
-/* ---- opening */
-
-/* One opening with a scratch of this length: the answer, every slot and every scratch place. */
-static void open_with(const uint8_t *file, size_t len, size_t scratch_len, uint32_t number, const struct opening *o)
-{
-    uint8_t *f = lend(&lent_file, file, len);
-    uint64_t *scratch = lend_unwritten(&lent_scratch, scratch_len * sizeof *scratch);
-    uint32_t *counts = lend_unwritten(&lent_counts, sizeof o->counts);
-    uint64_t *places = lend_unwritten(&lent_places, sizeof o->places);
-    uint64_t *totals = lend_unwritten(&lent_totals, sizeof o->totals);
-
-    expect_number("parse_animation", vmd_parse_animation(f, len, scratch, scratch_len, counts, places, totals), number);
-    expect_lent("file", &lent_file, file, len);
-    if (number != VMD_OK) {
-        expect_lent_unwritten("counts", &lent_counts);
-        expect_lent_unwritten("places", &lent_places);
-        expect_lent_unwritten("totals", &lent_totals);
-        expect_lent_unwritten("scratch", &lent_scratch);
-        return;
-    }
-    expect_lent("counts", &lent_counts, o->counts, sizeof o->counts);
-    expect_lent("places", &lent_places, o->places, sizeof o->places);
-    expect_lent("totals", &lent_totals, o->totals, sizeof o->totals);
-    expect_unwritten("before the scratch", lent_scratch.at - 64, 64);
-    if (o->n_frames > 0)
-        expect_bytes("scratch", scratch, o->frames, o->n_frames * sizeof *scratch);
-    if (scratch_len > o->n_frames)
-        expect_unwritten("further scratch places", scratch + o->n_frames, (scratch_len - o->n_frames) * sizeof *scratch);
-}
-
-/* Opens a file with scratch for just its frames, with more, with none and with one place less. */
-static uint32_t try_opening(const uint8_t *file, size_t len, struct opening *o)
-{
-    uint32_t number = expected_opening(file, len, o);
-    open_with(file, len, o->n_frames, number, o);
-    open_with(file, len, o->n_frames + 5, number, o);
-    if (number == VMD_OK && o->n_frames > 0) {
-        open_with(file, len, 0, VMD_SCRATCH_TOO_SHORT, o);
-        open_with(file, len, o->n_frames - 1, VMD_SCRATCH_TOO_SHORT, o);
-    }
-    return number;
-}
+static struct fence lent_slot, lent_values;
 
 /* ---- fetching: every call with one number, against the record that the layout has at the place */
 
@@ -334,7 +292,7 @@ static void places_of_empty_sections(void)
     struct name none = named("");
     struct bytes b;
     uint32_t counts[6];
-    uint64_t places[6], totals[2];
+    uint64_t places[6], totals[3];
     size_t s;
     b.len = 0;
     put_header(&b, &none, CANONICAL);
@@ -346,8 +304,9 @@ static void places_of_empty_sections(void)
         expect_number("count", counts[s], 0);
         expect_number("place", places[s], s == 0 ? 54 : s == 1 ? 58 : 102);
     }
-    expect_number("IK states", totals[0], 0);
-    expect_number("largest frame", totals[1], 0);
+    expect_number("IK states", totals[VMD_TOTAL_IK_STATES], 0);
+    expect_number("smallest frame", totals[VMD_TOTAL_SMALLEST_FRAME], 0);
+    expect_number("largest frame", totals[VMD_TOTAL_LARGEST_FRAME], 0);
 }
 
 /* ---- takes field by field */
@@ -379,7 +338,7 @@ static void flags(void)
         struct take t = distinct_take(3, 0, 0, 1, 0, 0, 2);
         struct bytes b;
         uint32_t counts[6], record[10], enabled = 7;
-        uint64_t places[6], totals[2], scratch[2];
+        uint64_t places[6], totals[3], scratch[2];
         trial("flag byte %u", rows[k].byte);
         t.cameras[0].perspective = rows[k].byte;
         t.properties[1].visible = rows[k].byte;
@@ -395,32 +354,66 @@ static void flags(void)
     }
 }
 
-/* The largest frame may stand in any section, at its beginning or end. */
-static void largest_frame(void)
+/* ---- the smallest and the largest frame */
+
+/* Both are 0, however many of the counts there are, and also where a section is emptied: what stands there is no record. */
+static void frames_of_no_records(void)
 {
-    int section, last;
+    struct take none = empty_take();
+    struct bytes b;
+    int section;
+    for (section = 0; section < SECTIONS; section++) {
+        encode(&b, &none, CANONICAL);
+        b.len = 54 + 4 * (size_t)section;
+        trial("no records, the last count that of section %d", section);
+        try_frames(&b, 0, 0);
+        if (section < VMD_CAMERAS || section > VMD_SELF_SHADOWS)
+            continue;
+        trial("no records, section %d emptied", section);
+        b.at[b.len - 4] = 1;
+        put_u32(&b, 7);
+        put_u32(&b, 7);
+        try_frames(&b, 0, 0);
+    }
+}
+
+/* A take's only record is both, in any section and at any frame. */
+static void frames_of_one_record(void)
+{
+    static const uint32_t frames[] = {0, 1, 90, 0x7FFFFFFF, 0x80000000, 0xFFFFFFFE, 0xFFFFFFFF};
+    size_t k;
+    int section;
     for (section = 0; section < SECTIONS; section++)
-        for (last = 0; last < 2; last++) {
-            struct take t = distinct_take(4, 2, 2, 2, 2, 2, 2);
+        for (k = 0; k < sizeof frames / sizeof *frames; k++) {
+            struct take t = one_section_take(section, 1);
             struct bytes b;
-            uint32_t counts[6], *frames[SECTIONS];
-            uint64_t places[6], totals[2], scratch[2];
-            size_t i, s;
-            for (i = 0; i < 2; i++) {
-                frames[0] = &t.bones[i].frame;
-                frames[1] = &t.morphs[i].frame;
-                frames[2] = &t.cameras[i].frame;
-                frames[3] = &t.lights[i].frame;
-                frames[4] = &t.self_shadows[i].frame;
-                frames[5] = &t.properties[i].frame;
-                for (s = 0; s < SECTIONS; s++)
-                    *frames[s] = (int)s == section && (int)i == last ? 0x80000000 : (uint32_t)(10 * s + i);
-            }
+            *frame_of(&t, section, 0) = frames[k];
             encode(&b, &t, RAW);
-            trial("largest frame in record %d of section %d", last, section);
-            expect_number("parse_animation", vmd_parse_animation(b.at, b.len, scratch, 2, counts, places, totals), VMD_OK);
-            expect_number("largest frame", totals[1], 0x80000000);
+            trial("frame %u in section %d, and no other record", frames[k], section);
+            try_frames(&b, frames[k], frames[k]);
         }
+}
+
+/* One record among others that are all at one frame: below or above it, in any section, at any place of one to four. */
+static void frames_of_many_records(void)
+{
+    static const uint32_t frames[] = {0, 499, 501, 0x80000000, 0xFFFFFFFF}, others = 500;
+    size_t n, i, k, l;
+    int section, s;
+    for (n = 1; n <= 4; n++)
+        for (section = 0; section < SECTIONS; section++)
+            for (i = 0; i < n; i++)
+                for (k = 0; k < sizeof frames / sizeof *frames; k++) {
+                    struct take t = distinct_take(4, n, n, n, n, n, n);
+                    struct bytes b;
+                    for (s = 0; s < SECTIONS; s++)
+                        for (l = 0; l < n; l++)
+                            *frame_of(&t, s, l) = others;
+                    *frame_of(&t, section, i) = frames[k];
+                    encode(&b, &t, RAW);
+                    trial("frame %u in record %zu of %zu in section %d", frames[k], i, n, section);
+                    try_frames(&b, smaller(frames[k], others), larger(frames[k], others));
+                }
 }
 
 /* ---- files that are damaged in every place */
@@ -571,7 +564,7 @@ static void slices_of_no_elements(void)
     struct take t = distinct_take(4, 1, 1, 1, 1, 1, 0);
     struct bytes b;
     uint32_t counts[6], record[8] = {1, 2, 3};
-    uint64_t places[6], totals[2], part[2] = {7, 7};
+    uint64_t places[6], totals[3], part[2] = {7, 7};
     uint8_t *closed = end_of(&lent_file);
     trial("slices of no elements");
     encode(&b, &t, RAW);
@@ -593,7 +586,9 @@ int main(void)
     places_of_empty_sections();
     six_sections();
     flags();
-    largest_frame();
+    frames_of_no_records();
+    frames_of_one_record();
+    frames_of_many_records();
     cut_anywhere();
     any_byte_changed();
     openings_of_another_file();

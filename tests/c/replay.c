@@ -120,7 +120,7 @@ struct opened {
     const uint8_t *file;
     size_t len;
     uint32_t counts[6];
-    uint64_t places[6], totals[2], *scratch;
+    uint64_t places[6], totals[3], *scratch;
 };
 
 enum { PLACES = 1024 };
@@ -220,8 +220,8 @@ static void digest_take(const struct opened *o)
     uint64_t part[2];
     size_t s, i;
     digest_numbers(o->counts, 6);
-    digest_number((uint32_t)o->totals[0]);
-    digest_number((uint32_t)o->totals[1]);
+    for (s = 0; s < 3; s++)
+        digest_number((uint32_t)o->totals[s]);
     vmd_model_name(FILE_OF(o), part);
     digest_part(o, part);
     for (s = 0; s < 6; s++)

@@ -140,6 +140,19 @@ static inline size_t canonical_size(const struct take *t)
         + 9 * t->counts[5] + 21 * states_of(t);
 }
 
+/* The frame of record i of a section. */
+static inline uint32_t *frame_of(struct take *t, int section, size_t i)
+{
+    switch (section) {
+    case 0: return &t->bones[i].frame;
+    case 1: return &t->morphs[i].frame;
+    case 2: return &t->cameras[i].frame;
+    case 3: return &t->lights[i].frame;
+    case 4: return &t->self_shadows[i].frame;
+    default: return &t->properties[i].frame;
+    }
+}
+
 /* Every section: the first's records, then the second's. The model name: the first's where that is not empty. */
 static inline struct take joined(const struct take *first, const struct take *second)
 {
@@ -375,6 +388,13 @@ static inline struct take distinct_take(size_t model_len, size_t bones, size_t m
 static inline struct take empty_take(void)
 {
     return distinct_take(0, 0, 0, 0, 0, 0, 0);
+}
+
+/* So many records in one section, and none in the others. */
+static inline struct take one_section_take(int section, size_t n)
+{
+    return distinct_take(1, n * (section == 0), n * (section == 1), n * (section == 2), n * (section == 3),
+                         n * (section == 4), n * (section == 5));
 }
 
 /* A leg whose inverse kinematics goes off and on again: three property frames with different numbers of IK states. */

@@ -47,7 +47,7 @@ pub bones-38693400-in-110 : T (refuses (take 50 empty ++ (24 ∷ 106 ∷ 78 ∷ 
 unfolding computed
 bones-38693400-in-110 = tt
 
-pub bones-1-in-111 : T (exports (take 50 empty ++ (1 ∷ 0 ∷ 0 ∷ 0 ∷ []) ++ replicate 111 7) (take 50 empty ++ (1 ∷ 0 ∷ 0 ∷ 0 ∷ []) ++ replicate 111 7 ++ drop 54 empty) && figures (take 50 empty ++ (1 ∷ 0 ∷ 0 ∷ 0 ∷ []) ++ replicate 111 7) (1 ∷ 0 ∷ 0 ∷ 0 ∷ 0 ∷ 0 ∷ 0 ∷ 0x07070707 ∷ []))
+pub bones-1-in-111 : T (exports (take 50 empty ++ (1 ∷ 0 ∷ 0 ∷ 0 ∷ []) ++ replicate 111 7) (take 50 empty ++ (1 ∷ 0 ∷ 0 ∷ 0 ∷ []) ++ replicate 111 7 ++ drop 54 empty) && figures (take 50 empty ++ (1 ∷ 0 ∷ 0 ∷ 0 ∷ []) ++ replicate 111 7) (1 ∷ 0 ∷ 0 ∷ 0 ∷ 0 ∷ 0 ∷ 0 ∷ 0x07070707 ∷ 0x07070707 ∷ []))
 unfolding computed
 bones-1-in-111 = tt
 
@@ -127,7 +127,7 @@ pub morphs-186737709-in-22 : T (refuses (take 54 empty ++ (45 ∷ 100 ∷ 33 ∷
 unfolding computed
 morphs-186737709-in-22 = tt
 
-pub morphs-1-in-23 : T (exports (take 54 empty ++ (1 ∷ 0 ∷ 0 ∷ 0 ∷ []) ++ replicate 23 7) (take 54 empty ++ (1 ∷ 0 ∷ 0 ∷ 0 ∷ []) ++ replicate 23 7 ++ drop 58 empty) && figures (take 54 empty ++ (1 ∷ 0 ∷ 0 ∷ 0 ∷ []) ++ replicate 23 7) (0 ∷ 1 ∷ 0 ∷ 0 ∷ 0 ∷ 0 ∷ 0 ∷ 0x07070707 ∷ []))
+pub morphs-1-in-23 : T (exports (take 54 empty ++ (1 ∷ 0 ∷ 0 ∷ 0 ∷ []) ++ replicate 23 7) (take 54 empty ++ (1 ∷ 0 ∷ 0 ∷ 0 ∷ []) ++ replicate 23 7 ++ drop 58 empty) && figures (take 54 empty ++ (1 ∷ 0 ∷ 0 ∷ 0 ∷ []) ++ replicate 23 7) (0 ∷ 1 ∷ 0 ∷ 0 ∷ 0 ∷ 0 ∷ 0 ∷ 0x07070707 ∷ 0x07070707 ∷ []))
 unfolding computed
 morphs-1-in-23 = tt
 
@@ -147,7 +147,7 @@ pub morphs-186737709-in-23 : T (refuses (take 54 empty ++ (45 ∷ 100 ∷ 33 ∷
 unfolding computed
 morphs-186737709-in-23 = tt
 
-pub morphs-1-in-47 : T (exports (take 54 empty ++ (1 ∷ 0 ∷ 0 ∷ 0 ∷ []) ++ replicate 47 7) (take 54 empty ++ (1 ∷ 0 ∷ 0 ∷ 0 ∷ []) ++ replicate 23 7 ++ drop 58 empty) && figures (take 54 empty ++ (1 ∷ 0 ∷ 0 ∷ 0 ∷ []) ++ replicate 47 7) (0 ∷ 1 ∷ 0 ∷ 0 ∷ 0 ∷ 0 ∷ 0 ∷ 0x07070707 ∷ []))
+pub morphs-1-in-47 : T (exports (take 54 empty ++ (1 ∷ 0 ∷ 0 ∷ 0 ∷ []) ++ replicate 47 7) (take 54 empty ++ (1 ∷ 0 ∷ 0 ∷ 0 ∷ []) ++ replicate 23 7 ++ drop 58 empty) && figures (take 54 empty ++ (1 ∷ 0 ∷ 0 ∷ 0 ∷ []) ++ replicate 47 7) (0 ∷ 1 ∷ 0 ∷ 0 ∷ 0 ∷ 0 ∷ 0 ∷ 0x07070707 ∷ 0x07070707 ∷ []))
 unfolding computed
 morphs-1-in-47 = tt
 
@@ -167,67 +167,67 @@ pub morphs-186737709-in-47 : T (refuses (take 54 empty ++ (45 ∷ 100 ∷ 33 ∷
 unfolding computed
 morphs-186737709-in-47 = tt
 
-pub cameras-1-in-0 : T (exports (take 58 empty ++ (1 ∷ 0 ∷ 0 ∷ 0 ∷ [])) empty && figures (take 58 empty ++ (1 ∷ 0 ∷ 0 ∷ 0 ∷ [])) (0 ∷ 0 ∷ 0 ∷ 0 ∷ 0 ∷ 0 ∷ 0 ∷ 0 ∷ []))
+pub cameras-1-in-0 : T (exports (take 58 empty ++ (1 ∷ 0 ∷ 0 ∷ 0 ∷ [])) empty && figures (take 58 empty ++ (1 ∷ 0 ∷ 0 ∷ 0 ∷ [])) (0 ∷ 0 ∷ 0 ∷ 0 ∷ 0 ∷ 0 ∷ 0 ∷ 0 ∷ 0 ∷ []))
 unfolding computed
 cameras-1-in-0 = tt
 
-pub cameras-2-in-0 : T (exports (take 58 empty ++ (2 ∷ 0 ∷ 0 ∷ 0 ∷ [])) empty && figures (take 58 empty ++ (2 ∷ 0 ∷ 0 ∷ 0 ∷ [])) (0 ∷ 0 ∷ 0 ∷ 0 ∷ 0 ∷ 0 ∷ 0 ∷ 0 ∷ []))
+pub cameras-2-in-0 : T (exports (take 58 empty ++ (2 ∷ 0 ∷ 0 ∷ 0 ∷ [])) empty && figures (take 58 empty ++ (2 ∷ 0 ∷ 0 ∷ 0 ∷ [])) (0 ∷ 0 ∷ 0 ∷ 0 ∷ 0 ∷ 0 ∷ 0 ∷ 0 ∷ 0 ∷ []))
 unfolding computed
 cameras-2-in-0 = tt
 
-pub cameras-2147483647-in-0 : T (exports (take 58 empty ++ (255 ∷ 255 ∷ 255 ∷ 127 ∷ [])) empty && figures (take 58 empty ++ (255 ∷ 255 ∷ 255 ∷ 127 ∷ [])) (0 ∷ 0 ∷ 0 ∷ 0 ∷ 0 ∷ 0 ∷ 0 ∷ 0 ∷ []))
+pub cameras-2147483647-in-0 : T (exports (take 58 empty ++ (255 ∷ 255 ∷ 255 ∷ 127 ∷ [])) empty && figures (take 58 empty ++ (255 ∷ 255 ∷ 255 ∷ 127 ∷ [])) (0 ∷ 0 ∷ 0 ∷ 0 ∷ 0 ∷ 0 ∷ 0 ∷ 0 ∷ 0 ∷ []))
 unfolding computed
 cameras-2147483647-in-0 = tt
 
-pub cameras-4294967295-in-0 : T (exports (take 58 empty ++ replicate 4 255) empty && figures (take 58 empty ++ replicate 4 255) (0 ∷ 0 ∷ 0 ∷ 0 ∷ 0 ∷ 0 ∷ 0 ∷ 0 ∷ []))
+pub cameras-4294967295-in-0 : T (exports (take 58 empty ++ replicate 4 255) empty && figures (take 58 empty ++ replicate 4 255) (0 ∷ 0 ∷ 0 ∷ 0 ∷ 0 ∷ 0 ∷ 0 ∷ 0 ∷ 0 ∷ []))
 unfolding computed
 cameras-4294967295-in-0 = tt
 
-pub cameras-70409300-in-0 : T (exports (take 58 empty ++ (84 ∷ 92 ∷ 50 ∷ 4 ∷ [])) empty && figures (take 58 empty ++ (84 ∷ 92 ∷ 50 ∷ 4 ∷ [])) (0 ∷ 0 ∷ 0 ∷ 0 ∷ 0 ∷ 0 ∷ 0 ∷ 0 ∷ []))
+pub cameras-70409300-in-0 : T (exports (take 58 empty ++ (84 ∷ 92 ∷ 50 ∷ 4 ∷ [])) empty && figures (take 58 empty ++ (84 ∷ 92 ∷ 50 ∷ 4 ∷ [])) (0 ∷ 0 ∷ 0 ∷ 0 ∷ 0 ∷ 0 ∷ 0 ∷ 0 ∷ 0 ∷ []))
 unfolding computed
 cameras-70409300-in-0 = tt
 
-pub cameras-1-in-60 : T (exports (take 58 empty ++ (1 ∷ 0 ∷ 0 ∷ 0 ∷ []) ++ replicate 60 7) empty && figures (take 58 empty ++ (1 ∷ 0 ∷ 0 ∷ 0 ∷ []) ++ replicate 60 7) (0 ∷ 0 ∷ 0 ∷ 0 ∷ 0 ∷ 0 ∷ 0 ∷ 0 ∷ []))
+pub cameras-1-in-60 : T (exports (take 58 empty ++ (1 ∷ 0 ∷ 0 ∷ 0 ∷ []) ++ replicate 60 7) empty && figures (take 58 empty ++ (1 ∷ 0 ∷ 0 ∷ 0 ∷ []) ++ replicate 60 7) (0 ∷ 0 ∷ 0 ∷ 0 ∷ 0 ∷ 0 ∷ 0 ∷ 0 ∷ 0 ∷ []))
 unfolding computed
 cameras-1-in-60 = tt
 
-pub cameras-2-in-60 : T (exports (take 58 empty ++ (2 ∷ 0 ∷ 0 ∷ 0 ∷ []) ++ replicate 60 7) empty && figures (take 58 empty ++ (2 ∷ 0 ∷ 0 ∷ 0 ∷ []) ++ replicate 60 7) (0 ∷ 0 ∷ 0 ∷ 0 ∷ 0 ∷ 0 ∷ 0 ∷ 0 ∷ []))
+pub cameras-2-in-60 : T (exports (take 58 empty ++ (2 ∷ 0 ∷ 0 ∷ 0 ∷ []) ++ replicate 60 7) empty && figures (take 58 empty ++ (2 ∷ 0 ∷ 0 ∷ 0 ∷ []) ++ replicate 60 7) (0 ∷ 0 ∷ 0 ∷ 0 ∷ 0 ∷ 0 ∷ 0 ∷ 0 ∷ 0 ∷ []))
 unfolding computed
 cameras-2-in-60 = tt
 
-pub cameras-2147483647-in-60 : T (exports (take 58 empty ++ (255 ∷ 255 ∷ 255 ∷ 127 ∷ []) ++ replicate 60 7) empty && figures (take 58 empty ++ (255 ∷ 255 ∷ 255 ∷ 127 ∷ []) ++ replicate 60 7) (0 ∷ 0 ∷ 0 ∷ 0 ∷ 0 ∷ 0 ∷ 0 ∷ 0 ∷ []))
+pub cameras-2147483647-in-60 : T (exports (take 58 empty ++ (255 ∷ 255 ∷ 255 ∷ 127 ∷ []) ++ replicate 60 7) empty && figures (take 58 empty ++ (255 ∷ 255 ∷ 255 ∷ 127 ∷ []) ++ replicate 60 7) (0 ∷ 0 ∷ 0 ∷ 0 ∷ 0 ∷ 0 ∷ 0 ∷ 0 ∷ 0 ∷ []))
 unfolding computed
 cameras-2147483647-in-60 = tt
 
-pub cameras-4294967295-in-60 : T (exports (take 58 empty ++ replicate 4 255 ++ replicate 60 7) empty && figures (take 58 empty ++ replicate 4 255 ++ replicate 60 7) (0 ∷ 0 ∷ 0 ∷ 0 ∷ 0 ∷ 0 ∷ 0 ∷ 0 ∷ []))
+pub cameras-4294967295-in-60 : T (exports (take 58 empty ++ replicate 4 255 ++ replicate 60 7) empty && figures (take 58 empty ++ replicate 4 255 ++ replicate 60 7) (0 ∷ 0 ∷ 0 ∷ 0 ∷ 0 ∷ 0 ∷ 0 ∷ 0 ∷ 0 ∷ []))
 unfolding computed
 cameras-4294967295-in-60 = tt
 
-pub cameras-70409300-in-60 : T (exports (take 58 empty ++ (84 ∷ 92 ∷ 50 ∷ 4 ∷ []) ++ replicate 60 7) empty && figures (take 58 empty ++ (84 ∷ 92 ∷ 50 ∷ 4 ∷ []) ++ replicate 60 7) (0 ∷ 0 ∷ 0 ∷ 0 ∷ 0 ∷ 0 ∷ 0 ∷ 0 ∷ []))
+pub cameras-70409300-in-60 : T (exports (take 58 empty ++ (84 ∷ 92 ∷ 50 ∷ 4 ∷ []) ++ replicate 60 7) empty && figures (take 58 empty ++ (84 ∷ 92 ∷ 50 ∷ 4 ∷ []) ++ replicate 60 7) (0 ∷ 0 ∷ 0 ∷ 0 ∷ 0 ∷ 0 ∷ 0 ∷ 0 ∷ 0 ∷ []))
 unfolding computed
 cameras-70409300-in-60 = tt
 
-pub cameras-1-in-61 : T (exports (take 58 empty ++ (1 ∷ 0 ∷ 0 ∷ 0 ∷ []) ++ replicate 61 7) (take 58 empty ++ (1 ∷ 0 ∷ 0 ∷ 0 ∷ []) ++ replicate 60 7 ++ (1 ∷ []) ++ drop 62 empty) && figures (take 58 empty ++ (1 ∷ 0 ∷ 0 ∷ 0 ∷ []) ++ replicate 61 7) (0 ∷ 0 ∷ 1 ∷ 0 ∷ 0 ∷ 0 ∷ 0 ∷ 0x07070707 ∷ []))
+pub cameras-1-in-61 : T (exports (take 58 empty ++ (1 ∷ 0 ∷ 0 ∷ 0 ∷ []) ++ replicate 61 7) (take 58 empty ++ (1 ∷ 0 ∷ 0 ∷ 0 ∷ []) ++ replicate 60 7 ++ (1 ∷ []) ++ drop 62 empty) && figures (take 58 empty ++ (1 ∷ 0 ∷ 0 ∷ 0 ∷ []) ++ replicate 61 7) (0 ∷ 0 ∷ 1 ∷ 0 ∷ 0 ∷ 0 ∷ 0 ∷ 0x07070707 ∷ 0x07070707 ∷ []))
 unfolding computed
 cameras-1-in-61 = tt
 
-pub cameras-2-in-61 : T (exports (take 58 empty ++ (2 ∷ 0 ∷ 0 ∷ 0 ∷ []) ++ replicate 61 7) empty && figures (take 58 empty ++ (2 ∷ 0 ∷ 0 ∷ 0 ∷ []) ++ replicate 61 7) (0 ∷ 0 ∷ 0 ∷ 0 ∷ 0 ∷ 0 ∷ 0 ∷ 0 ∷ []))
+pub cameras-2-in-61 : T (exports (take 58 empty ++ (2 ∷ 0 ∷ 0 ∷ 0 ∷ []) ++ replicate 61 7) empty && figures (take 58 empty ++ (2 ∷ 0 ∷ 0 ∷ 0 ∷ []) ++ replicate 61 7) (0 ∷ 0 ∷ 0 ∷ 0 ∷ 0 ∷ 0 ∷ 0 ∷ 0 ∷ 0 ∷ []))
 unfolding computed
 cameras-2-in-61 = tt
 
-pub cameras-2147483647-in-61 : T (exports (take 58 empty ++ (255 ∷ 255 ∷ 255 ∷ 127 ∷ []) ++ replicate 61 7) empty && figures (take 58 empty ++ (255 ∷ 255 ∷ 255 ∷ 127 ∷ []) ++ replicate 61 7) (0 ∷ 0 ∷ 0 ∷ 0 ∷ 0 ∷ 0 ∷ 0 ∷ 0 ∷ []))
+pub cameras-2147483647-in-61 : T (exports (take 58 empty ++ (255 ∷ 255 ∷ 255 ∷ 127 ∷ []) ++ replicate 61 7) empty && figures (take 58 empty ++ (255 ∷ 255 ∷ 255 ∷ 127 ∷ []) ++ replicate 61 7) (0 ∷ 0 ∷ 0 ∷ 0 ∷ 0 ∷ 0 ∷ 0 ∷ 0 ∷ 0 ∷ []))
 unfolding computed
 cameras-2147483647-in-61 = tt
 
-pub cameras-4294967295-in-61 : T (exports (take 58 empty ++ replicate 4 255 ++ replicate 61 7) empty && figures (take 58 empty ++ replicate 4 255 ++ replicate 61 7) (0 ∷ 0 ∷ 0 ∷ 0 ∷ 0 ∷ 0 ∷ 0 ∷ 0 ∷ []))
+pub cameras-4294967295-in-61 : T (exports (take 58 empty ++ replicate 4 255 ++ replicate 61 7) empty && figures (take 58 empty ++ replicate 4 255 ++ replicate 61 7) (0 ∷ 0 ∷ 0 ∷ 0 ∷ 0 ∷ 0 ∷ 0 ∷ 0 ∷ 0 ∷ []))
 unfolding computed
 cameras-4294967295-in-61 = tt
 
-pub cameras-70409300-in-61 : T (exports (take 58 empty ++ (84 ∷ 92 ∷ 50 ∷ 4 ∷ []) ++ replicate 61 7) empty && figures (take 58 empty ++ (84 ∷ 92 ∷ 50 ∷ 4 ∷ []) ++ replicate 61 7) (0 ∷ 0 ∷ 0 ∷ 0 ∷ 0 ∷ 0 ∷ 0 ∷ 0 ∷ []))
+pub cameras-70409300-in-61 : T (exports (take 58 empty ++ (84 ∷ 92 ∷ 50 ∷ 4 ∷ []) ++ replicate 61 7) empty && figures (take 58 empty ++ (84 ∷ 92 ∷ 50 ∷ 4 ∷ []) ++ replicate 61 7) (0 ∷ 0 ∷ 0 ∷ 0 ∷ 0 ∷ 0 ∷ 0 ∷ 0 ∷ 0 ∷ []))
 unfolding computed
 cameras-70409300-in-61 = tt
 
-pub cameras-1-in-123 : T (exports (take 58 empty ++ (1 ∷ 0 ∷ 0 ∷ 0 ∷ []) ++ replicate 123 7) (take 58 empty ++ (1 ∷ 0 ∷ 0 ∷ 0 ∷ []) ++ replicate 60 7 ++ (1 ∷ []) ++ drop 62 empty) && figures (take 58 empty ++ (1 ∷ 0 ∷ 0 ∷ 0 ∷ []) ++ replicate 123 7) (0 ∷ 0 ∷ 1 ∷ 0 ∷ 0 ∷ 0 ∷ 0 ∷ 0x07070707 ∷ []))
+pub cameras-1-in-123 : T (exports (take 58 empty ++ (1 ∷ 0 ∷ 0 ∷ 0 ∷ []) ++ replicate 123 7) (take 58 empty ++ (1 ∷ 0 ∷ 0 ∷ 0 ∷ []) ++ replicate 60 7 ++ (1 ∷ []) ++ drop 62 empty) && figures (take 58 empty ++ (1 ∷ 0 ∷ 0 ∷ 0 ∷ []) ++ replicate 123 7) (0 ∷ 0 ∷ 1 ∷ 0 ∷ 0 ∷ 0 ∷ 0 ∷ 0x07070707 ∷ 0x07070707 ∷ []))
 unfolding computed
 cameras-1-in-123 = tt
 
@@ -235,79 +235,79 @@ pub cameras-2-in-123 : T (refuses (take 58 empty ++ (2 ∷ 0 ∷ 0 ∷ 0 ∷ [])
 unfolding computed
 cameras-2-in-123 = tt
 
-pub cameras-2147483647-in-123 : T (exports (take 58 empty ++ (255 ∷ 255 ∷ 255 ∷ 127 ∷ []) ++ replicate 123 7) empty && figures (take 58 empty ++ (255 ∷ 255 ∷ 255 ∷ 127 ∷ []) ++ replicate 123 7) (0 ∷ 0 ∷ 0 ∷ 0 ∷ 0 ∷ 0 ∷ 0 ∷ 0 ∷ []))
+pub cameras-2147483647-in-123 : T (exports (take 58 empty ++ (255 ∷ 255 ∷ 255 ∷ 127 ∷ []) ++ replicate 123 7) empty && figures (take 58 empty ++ (255 ∷ 255 ∷ 255 ∷ 127 ∷ []) ++ replicate 123 7) (0 ∷ 0 ∷ 0 ∷ 0 ∷ 0 ∷ 0 ∷ 0 ∷ 0 ∷ 0 ∷ []))
 unfolding computed
 cameras-2147483647-in-123 = tt
 
-pub cameras-4294967295-in-123 : T (exports (take 58 empty ++ replicate 4 255 ++ replicate 123 7) empty && figures (take 58 empty ++ replicate 4 255 ++ replicate 123 7) (0 ∷ 0 ∷ 0 ∷ 0 ∷ 0 ∷ 0 ∷ 0 ∷ 0 ∷ []))
+pub cameras-4294967295-in-123 : T (exports (take 58 empty ++ replicate 4 255 ++ replicate 123 7) empty && figures (take 58 empty ++ replicate 4 255 ++ replicate 123 7) (0 ∷ 0 ∷ 0 ∷ 0 ∷ 0 ∷ 0 ∷ 0 ∷ 0 ∷ 0 ∷ []))
 unfolding computed
 cameras-4294967295-in-123 = tt
 
-pub cameras-70409300-in-123 : T (exports (take 58 empty ++ (84 ∷ 92 ∷ 50 ∷ 4 ∷ []) ++ replicate 123 7) empty && figures (take 58 empty ++ (84 ∷ 92 ∷ 50 ∷ 4 ∷ []) ++ replicate 123 7) (0 ∷ 0 ∷ 0 ∷ 0 ∷ 0 ∷ 0 ∷ 0 ∷ 0 ∷ []))
+pub cameras-70409300-in-123 : T (exports (take 58 empty ++ (84 ∷ 92 ∷ 50 ∷ 4 ∷ []) ++ replicate 123 7) empty && figures (take 58 empty ++ (84 ∷ 92 ∷ 50 ∷ 4 ∷ []) ++ replicate 123 7) (0 ∷ 0 ∷ 0 ∷ 0 ∷ 0 ∷ 0 ∷ 0 ∷ 0 ∷ 0 ∷ []))
 unfolding computed
 cameras-70409300-in-123 = tt
 
-pub lights-1-in-0 : T (exports (take 62 empty ++ (1 ∷ 0 ∷ 0 ∷ 0 ∷ [])) empty && figures (take 62 empty ++ (1 ∷ 0 ∷ 0 ∷ 0 ∷ [])) (0 ∷ 0 ∷ 0 ∷ 0 ∷ 0 ∷ 0 ∷ 0 ∷ 0 ∷ []))
+pub lights-1-in-0 : T (exports (take 62 empty ++ (1 ∷ 0 ∷ 0 ∷ 0 ∷ [])) empty && figures (take 62 empty ++ (1 ∷ 0 ∷ 0 ∷ 0 ∷ [])) (0 ∷ 0 ∷ 0 ∷ 0 ∷ 0 ∷ 0 ∷ 0 ∷ 0 ∷ 0 ∷ []))
 unfolding computed
 lights-1-in-0 = tt
 
-pub lights-2-in-0 : T (exports (take 62 empty ++ (2 ∷ 0 ∷ 0 ∷ 0 ∷ [])) empty && figures (take 62 empty ++ (2 ∷ 0 ∷ 0 ∷ 0 ∷ [])) (0 ∷ 0 ∷ 0 ∷ 0 ∷ 0 ∷ 0 ∷ 0 ∷ 0 ∷ []))
+pub lights-2-in-0 : T (exports (take 62 empty ++ (2 ∷ 0 ∷ 0 ∷ 0 ∷ [])) empty && figures (take 62 empty ++ (2 ∷ 0 ∷ 0 ∷ 0 ∷ [])) (0 ∷ 0 ∷ 0 ∷ 0 ∷ 0 ∷ 0 ∷ 0 ∷ 0 ∷ 0 ∷ []))
 unfolding computed
 lights-2-in-0 = tt
 
-pub lights-2147483647-in-0 : T (exports (take 62 empty ++ (255 ∷ 255 ∷ 255 ∷ 127 ∷ [])) empty && figures (take 62 empty ++ (255 ∷ 255 ∷ 255 ∷ 127 ∷ [])) (0 ∷ 0 ∷ 0 ∷ 0 ∷ 0 ∷ 0 ∷ 0 ∷ 0 ∷ []))
+pub lights-2147483647-in-0 : T (exports (take 62 empty ++ (255 ∷ 255 ∷ 255 ∷ 127 ∷ [])) empty && figures (take 62 empty ++ (255 ∷ 255 ∷ 255 ∷ 127 ∷ [])) (0 ∷ 0 ∷ 0 ∷ 0 ∷ 0 ∷ 0 ∷ 0 ∷ 0 ∷ 0 ∷ []))
 unfolding computed
 lights-2147483647-in-0 = tt
 
-pub lights-4294967295-in-0 : T (exports (take 62 empty ++ replicate 4 255) empty && figures (take 62 empty ++ replicate 4 255) (0 ∷ 0 ∷ 0 ∷ 0 ∷ 0 ∷ 0 ∷ 0 ∷ 0 ∷ []))
+pub lights-4294967295-in-0 : T (exports (take 62 empty ++ replicate 4 255) empty && figures (take 62 empty ++ replicate 4 255) (0 ∷ 0 ∷ 0 ∷ 0 ∷ 0 ∷ 0 ∷ 0 ∷ 0 ∷ 0 ∷ []))
 unfolding computed
 lights-4294967295-in-0 = tt
 
-pub lights-153391690-in-0 : T (exports (take 62 empty ++ (74 ∷ 146 ∷ 36 ∷ 9 ∷ [])) empty && figures (take 62 empty ++ (74 ∷ 146 ∷ 36 ∷ 9 ∷ [])) (0 ∷ 0 ∷ 0 ∷ 0 ∷ 0 ∷ 0 ∷ 0 ∷ 0 ∷ []))
+pub lights-153391690-in-0 : T (exports (take 62 empty ++ (74 ∷ 146 ∷ 36 ∷ 9 ∷ [])) empty && figures (take 62 empty ++ (74 ∷ 146 ∷ 36 ∷ 9 ∷ [])) (0 ∷ 0 ∷ 0 ∷ 0 ∷ 0 ∷ 0 ∷ 0 ∷ 0 ∷ 0 ∷ []))
 unfolding computed
 lights-153391690-in-0 = tt
 
-pub lights-1-in-27 : T (exports (take 62 empty ++ (1 ∷ 0 ∷ 0 ∷ 0 ∷ []) ++ replicate 27 7) empty && figures (take 62 empty ++ (1 ∷ 0 ∷ 0 ∷ 0 ∷ []) ++ replicate 27 7) (0 ∷ 0 ∷ 0 ∷ 0 ∷ 0 ∷ 0 ∷ 0 ∷ 0 ∷ []))
+pub lights-1-in-27 : T (exports (take 62 empty ++ (1 ∷ 0 ∷ 0 ∷ 0 ∷ []) ++ replicate 27 7) empty && figures (take 62 empty ++ (1 ∷ 0 ∷ 0 ∷ 0 ∷ []) ++ replicate 27 7) (0 ∷ 0 ∷ 0 ∷ 0 ∷ 0 ∷ 0 ∷ 0 ∷ 0 ∷ 0 ∷ []))
 unfolding computed
 lights-1-in-27 = tt
 
-pub lights-2-in-27 : T (exports (take 62 empty ++ (2 ∷ 0 ∷ 0 ∷ 0 ∷ []) ++ replicate 27 7) empty && figures (take 62 empty ++ (2 ∷ 0 ∷ 0 ∷ 0 ∷ []) ++ replicate 27 7) (0 ∷ 0 ∷ 0 ∷ 0 ∷ 0 ∷ 0 ∷ 0 ∷ 0 ∷ []))
+pub lights-2-in-27 : T (exports (take 62 empty ++ (2 ∷ 0 ∷ 0 ∷ 0 ∷ []) ++ replicate 27 7) empty && figures (take 62 empty ++ (2 ∷ 0 ∷ 0 ∷ 0 ∷ []) ++ replicate 27 7) (0 ∷ 0 ∷ 0 ∷ 0 ∷ 0 ∷ 0 ∷ 0 ∷ 0 ∷ 0 ∷ []))
 unfolding computed
 lights-2-in-27 = tt
 
-pub lights-2147483647-in-27 : T (exports (take 62 empty ++ (255 ∷ 255 ∷ 255 ∷ 127 ∷ []) ++ replicate 27 7) empty && figures (take 62 empty ++ (255 ∷ 255 ∷ 255 ∷ 127 ∷ []) ++ replicate 27 7) (0 ∷ 0 ∷ 0 ∷ 0 ∷ 0 ∷ 0 ∷ 0 ∷ 0 ∷ []))
+pub lights-2147483647-in-27 : T (exports (take 62 empty ++ (255 ∷ 255 ∷ 255 ∷ 127 ∷ []) ++ replicate 27 7) empty && figures (take 62 empty ++ (255 ∷ 255 ∷ 255 ∷ 127 ∷ []) ++ replicate 27 7) (0 ∷ 0 ∷ 0 ∷ 0 ∷ 0 ∷ 0 ∷ 0 ∷ 0 ∷ 0 ∷ []))
 unfolding computed
 lights-2147483647-in-27 = tt
 
-pub lights-4294967295-in-27 : T (exports (take 62 empty ++ replicate 4 255 ++ replicate 27 7) empty && figures (take 62 empty ++ replicate 4 255 ++ replicate 27 7) (0 ∷ 0 ∷ 0 ∷ 0 ∷ 0 ∷ 0 ∷ 0 ∷ 0 ∷ []))
+pub lights-4294967295-in-27 : T (exports (take 62 empty ++ replicate 4 255 ++ replicate 27 7) empty && figures (take 62 empty ++ replicate 4 255 ++ replicate 27 7) (0 ∷ 0 ∷ 0 ∷ 0 ∷ 0 ∷ 0 ∷ 0 ∷ 0 ∷ 0 ∷ []))
 unfolding computed
 lights-4294967295-in-27 = tt
 
-pub lights-153391690-in-27 : T (exports (take 62 empty ++ (74 ∷ 146 ∷ 36 ∷ 9 ∷ []) ++ replicate 27 7) empty && figures (take 62 empty ++ (74 ∷ 146 ∷ 36 ∷ 9 ∷ []) ++ replicate 27 7) (0 ∷ 0 ∷ 0 ∷ 0 ∷ 0 ∷ 0 ∷ 0 ∷ 0 ∷ []))
+pub lights-153391690-in-27 : T (exports (take 62 empty ++ (74 ∷ 146 ∷ 36 ∷ 9 ∷ []) ++ replicate 27 7) empty && figures (take 62 empty ++ (74 ∷ 146 ∷ 36 ∷ 9 ∷ []) ++ replicate 27 7) (0 ∷ 0 ∷ 0 ∷ 0 ∷ 0 ∷ 0 ∷ 0 ∷ 0 ∷ 0 ∷ []))
 unfolding computed
 lights-153391690-in-27 = tt
 
-pub lights-1-in-28 : T (exports (take 62 empty ++ (1 ∷ 0 ∷ 0 ∷ 0 ∷ []) ++ replicate 28 7) (take 62 empty ++ (1 ∷ 0 ∷ 0 ∷ 0 ∷ []) ++ replicate 28 7 ++ drop 66 empty) && figures (take 62 empty ++ (1 ∷ 0 ∷ 0 ∷ 0 ∷ []) ++ replicate 28 7) (0 ∷ 0 ∷ 0 ∷ 1 ∷ 0 ∷ 0 ∷ 0 ∷ 0x07070707 ∷ []))
+pub lights-1-in-28 : T (exports (take 62 empty ++ (1 ∷ 0 ∷ 0 ∷ 0 ∷ []) ++ replicate 28 7) (take 62 empty ++ (1 ∷ 0 ∷ 0 ∷ 0 ∷ []) ++ replicate 28 7 ++ drop 66 empty) && figures (take 62 empty ++ (1 ∷ 0 ∷ 0 ∷ 0 ∷ []) ++ replicate 28 7) (0 ∷ 0 ∷ 0 ∷ 1 ∷ 0 ∷ 0 ∷ 0 ∷ 0x07070707 ∷ 0x07070707 ∷ []))
 unfolding computed
 lights-1-in-28 = tt
 
-pub lights-2-in-28 : T (exports (take 62 empty ++ (2 ∷ 0 ∷ 0 ∷ 0 ∷ []) ++ replicate 28 7) empty && figures (take 62 empty ++ (2 ∷ 0 ∷ 0 ∷ 0 ∷ []) ++ replicate 28 7) (0 ∷ 0 ∷ 0 ∷ 0 ∷ 0 ∷ 0 ∷ 0 ∷ 0 ∷ []))
+pub lights-2-in-28 : T (exports (take 62 empty ++ (2 ∷ 0 ∷ 0 ∷ 0 ∷ []) ++ replicate 28 7) empty && figures (take 62 empty ++ (2 ∷ 0 ∷ 0 ∷ 0 ∷ []) ++ replicate 28 7) (0 ∷ 0 ∷ 0 ∷ 0 ∷ 0 ∷ 0 ∷ 0 ∷ 0 ∷ 0 ∷ []))
 unfolding computed
 lights-2-in-28 = tt
 
-pub lights-2147483647-in-28 : T (exports (take 62 empty ++ (255 ∷ 255 ∷ 255 ∷ 127 ∷ []) ++ replicate 28 7) empty && figures (take 62 empty ++ (255 ∷ 255 ∷ 255 ∷ 127 ∷ []) ++ replicate 28 7) (0 ∷ 0 ∷ 0 ∷ 0 ∷ 0 ∷ 0 ∷ 0 ∷ 0 ∷ []))
+pub lights-2147483647-in-28 : T (exports (take 62 empty ++ (255 ∷ 255 ∷ 255 ∷ 127 ∷ []) ++ replicate 28 7) empty && figures (take 62 empty ++ (255 ∷ 255 ∷ 255 ∷ 127 ∷ []) ++ replicate 28 7) (0 ∷ 0 ∷ 0 ∷ 0 ∷ 0 ∷ 0 ∷ 0 ∷ 0 ∷ 0 ∷ []))
 unfolding computed
 lights-2147483647-in-28 = tt
 
-pub lights-4294967295-in-28 : T (exports (take 62 empty ++ replicate 4 255 ++ replicate 28 7) empty && figures (take 62 empty ++ replicate 4 255 ++ replicate 28 7) (0 ∷ 0 ∷ 0 ∷ 0 ∷ 0 ∷ 0 ∷ 0 ∷ 0 ∷ []))
+pub lights-4294967295-in-28 : T (exports (take 62 empty ++ replicate 4 255 ++ replicate 28 7) empty && figures (take 62 empty ++ replicate 4 255 ++ replicate 28 7) (0 ∷ 0 ∷ 0 ∷ 0 ∷ 0 ∷ 0 ∷ 0 ∷ 0 ∷ 0 ∷ []))
 unfolding computed
 lights-4294967295-in-28 = tt
 
-pub lights-153391690-in-28 : T (exports (take 62 empty ++ (74 ∷ 146 ∷ 36 ∷ 9 ∷ []) ++ replicate 28 7) empty && figures (take 62 empty ++ (74 ∷ 146 ∷ 36 ∷ 9 ∷ []) ++ replicate 28 7) (0 ∷ 0 ∷ 0 ∷ 0 ∷ 0 ∷ 0 ∷ 0 ∷ 0 ∷ []))
+pub lights-153391690-in-28 : T (exports (take 62 empty ++ (74 ∷ 146 ∷ 36 ∷ 9 ∷ []) ++ replicate 28 7) empty && figures (take 62 empty ++ (74 ∷ 146 ∷ 36 ∷ 9 ∷ []) ++ replicate 28 7) (0 ∷ 0 ∷ 0 ∷ 0 ∷ 0 ∷ 0 ∷ 0 ∷ 0 ∷ 0 ∷ []))
 unfolding computed
 lights-153391690-in-28 = tt
 
-pub lights-1-in-57 : T (exports (take 62 empty ++ (1 ∷ 0 ∷ 0 ∷ 0 ∷ []) ++ replicate 57 7) (take 62 empty ++ (1 ∷ 0 ∷ 0 ∷ 0 ∷ []) ++ replicate 28 7 ++ drop 66 empty) && figures (take 62 empty ++ (1 ∷ 0 ∷ 0 ∷ 0 ∷ []) ++ replicate 57 7) (0 ∷ 0 ∷ 0 ∷ 1 ∷ 0 ∷ 0 ∷ 0 ∷ 0x07070707 ∷ []))
+pub lights-1-in-57 : T (exports (take 62 empty ++ (1 ∷ 0 ∷ 0 ∷ 0 ∷ []) ++ replicate 57 7) (take 62 empty ++ (1 ∷ 0 ∷ 0 ∷ 0 ∷ []) ++ replicate 28 7 ++ drop 66 empty) && figures (take 62 empty ++ (1 ∷ 0 ∷ 0 ∷ 0 ∷ []) ++ replicate 57 7) (0 ∷ 0 ∷ 0 ∷ 1 ∷ 0 ∷ 0 ∷ 0 ∷ 0x07070707 ∷ 0x07070707 ∷ []))
 unfolding computed
 lights-1-in-57 = tt
 
@@ -315,75 +315,75 @@ pub lights-2-in-57 : T (refuses (take 62 empty ++ (2 ∷ 0 ∷ 0 ∷ 0 ∷ []) +
 unfolding computed
 lights-2-in-57 = tt
 
-pub lights-2147483647-in-57 : T (exports (take 62 empty ++ (255 ∷ 255 ∷ 255 ∷ 127 ∷ []) ++ replicate 57 7) empty && figures (take 62 empty ++ (255 ∷ 255 ∷ 255 ∷ 127 ∷ []) ++ replicate 57 7) (0 ∷ 0 ∷ 0 ∷ 0 ∷ 0 ∷ 0 ∷ 0 ∷ 0 ∷ []))
+pub lights-2147483647-in-57 : T (exports (take 62 empty ++ (255 ∷ 255 ∷ 255 ∷ 127 ∷ []) ++ replicate 57 7) empty && figures (take 62 empty ++ (255 ∷ 255 ∷ 255 ∷ 127 ∷ []) ++ replicate 57 7) (0 ∷ 0 ∷ 0 ∷ 0 ∷ 0 ∷ 0 ∷ 0 ∷ 0 ∷ 0 ∷ []))
 unfolding computed
 lights-2147483647-in-57 = tt
 
-pub lights-4294967295-in-57 : T (exports (take 62 empty ++ replicate 4 255 ++ replicate 57 7) empty && figures (take 62 empty ++ replicate 4 255 ++ replicate 57 7) (0 ∷ 0 ∷ 0 ∷ 0 ∷ 0 ∷ 0 ∷ 0 ∷ 0 ∷ []))
+pub lights-4294967295-in-57 : T (exports (take 62 empty ++ replicate 4 255 ++ replicate 57 7) empty && figures (take 62 empty ++ replicate 4 255 ++ replicate 57 7) (0 ∷ 0 ∷ 0 ∷ 0 ∷ 0 ∷ 0 ∷ 0 ∷ 0 ∷ 0 ∷ []))
 unfolding computed
 lights-4294967295-in-57 = tt
 
-pub lights-153391690-in-57 : T (exports (take 62 empty ++ (74 ∷ 146 ∷ 36 ∷ 9 ∷ []) ++ replicate 57 7) empty && figures (take 62 empty ++ (74 ∷ 146 ∷ 36 ∷ 9 ∷ []) ++ replicate 57 7) (0 ∷ 0 ∷ 0 ∷ 0 ∷ 0 ∷ 0 ∷ 0 ∷ 0 ∷ []))
+pub lights-153391690-in-57 : T (exports (take 62 empty ++ (74 ∷ 146 ∷ 36 ∷ 9 ∷ []) ++ replicate 57 7) empty && figures (take 62 empty ++ (74 ∷ 146 ∷ 36 ∷ 9 ∷ []) ++ replicate 57 7) (0 ∷ 0 ∷ 0 ∷ 0 ∷ 0 ∷ 0 ∷ 0 ∷ 0 ∷ 0 ∷ []))
 unfolding computed
 lights-153391690-in-57 = tt
 
-pub self-shadows-1-in-0 : T (exports (take 66 empty ++ (1 ∷ 0 ∷ 0 ∷ 0 ∷ [])) empty && figures (take 66 empty ++ (1 ∷ 0 ∷ 0 ∷ 0 ∷ [])) (0 ∷ 0 ∷ 0 ∷ 0 ∷ 0 ∷ 0 ∷ 0 ∷ 0 ∷ []))
+pub self-shadows-1-in-0 : T (exports (take 66 empty ++ (1 ∷ 0 ∷ 0 ∷ 0 ∷ [])) empty && figures (take 66 empty ++ (1 ∷ 0 ∷ 0 ∷ 0 ∷ [])) (0 ∷ 0 ∷ 0 ∷ 0 ∷ 0 ∷ 0 ∷ 0 ∷ 0 ∷ 0 ∷ []))
 unfolding computed
 self-shadows-1-in-0 = tt
 
-pub self-shadows-2-in-0 : T (exports (take 66 empty ++ (2 ∷ 0 ∷ 0 ∷ 0 ∷ [])) empty && figures (take 66 empty ++ (2 ∷ 0 ∷ 0 ∷ 0 ∷ [])) (0 ∷ 0 ∷ 0 ∷ 0 ∷ 0 ∷ 0 ∷ 0 ∷ 0 ∷ []))
+pub self-shadows-2-in-0 : T (exports (take 66 empty ++ (2 ∷ 0 ∷ 0 ∷ 0 ∷ [])) empty && figures (take 66 empty ++ (2 ∷ 0 ∷ 0 ∷ 0 ∷ [])) (0 ∷ 0 ∷ 0 ∷ 0 ∷ 0 ∷ 0 ∷ 0 ∷ 0 ∷ 0 ∷ []))
 unfolding computed
 self-shadows-2-in-0 = tt
 
-pub self-shadows-2147483647-in-0 : T (exports (take 66 empty ++ (255 ∷ 255 ∷ 255 ∷ 127 ∷ [])) empty && figures (take 66 empty ++ (255 ∷ 255 ∷ 255 ∷ 127 ∷ [])) (0 ∷ 0 ∷ 0 ∷ 0 ∷ 0 ∷ 0 ∷ 0 ∷ 0 ∷ []))
+pub self-shadows-2147483647-in-0 : T (exports (take 66 empty ++ (255 ∷ 255 ∷ 255 ∷ 127 ∷ [])) empty && figures (take 66 empty ++ (255 ∷ 255 ∷ 255 ∷ 127 ∷ [])) (0 ∷ 0 ∷ 0 ∷ 0 ∷ 0 ∷ 0 ∷ 0 ∷ 0 ∷ 0 ∷ []))
 unfolding computed
 self-shadows-2147483647-in-0 = tt
 
-pub self-shadows-4294967295-in-0 : T (exports (take 66 empty ++ replicate 4 255) empty && figures (take 66 empty ++ replicate 4 255) (0 ∷ 0 ∷ 0 ∷ 0 ∷ 0 ∷ 0 ∷ 0 ∷ 0 ∷ []))
+pub self-shadows-4294967295-in-0 : T (exports (take 66 empty ++ replicate 4 255) empty && figures (take 66 empty ++ replicate 4 255) (0 ∷ 0 ∷ 0 ∷ 0 ∷ 0 ∷ 0 ∷ 0 ∷ 0 ∷ 0 ∷ []))
 unfolding computed
 self-shadows-4294967295-in-0 = tt
 
-pub self-shadows-477218589-in-0 : T (exports (take 66 empty ++ (29 ∷ 199 ∷ 113 ∷ 28 ∷ [])) empty && figures (take 66 empty ++ (29 ∷ 199 ∷ 113 ∷ 28 ∷ [])) (0 ∷ 0 ∷ 0 ∷ 0 ∷ 0 ∷ 0 ∷ 0 ∷ 0 ∷ []))
+pub self-shadows-477218589-in-0 : T (exports (take 66 empty ++ (29 ∷ 199 ∷ 113 ∷ 28 ∷ [])) empty && figures (take 66 empty ++ (29 ∷ 199 ∷ 113 ∷ 28 ∷ [])) (0 ∷ 0 ∷ 0 ∷ 0 ∷ 0 ∷ 0 ∷ 0 ∷ 0 ∷ 0 ∷ []))
 unfolding computed
 self-shadows-477218589-in-0 = tt
 
-pub self-shadows-1-in-8 : T (exports (take 66 empty ++ (1 ∷ 0 ∷ 0 ∷ 0 ∷ []) ++ replicate 8 7) empty && figures (take 66 empty ++ (1 ∷ 0 ∷ 0 ∷ 0 ∷ []) ++ replicate 8 7) (0 ∷ 0 ∷ 0 ∷ 0 ∷ 0 ∷ 0 ∷ 0 ∷ 0 ∷ []))
+pub self-shadows-1-in-8 : T (exports (take 66 empty ++ (1 ∷ 0 ∷ 0 ∷ 0 ∷ []) ++ replicate 8 7) empty && figures (take 66 empty ++ (1 ∷ 0 ∷ 0 ∷ 0 ∷ []) ++ replicate 8 7) (0 ∷ 0 ∷ 0 ∷ 0 ∷ 0 ∷ 0 ∷ 0 ∷ 0 ∷ 0 ∷ []))
 unfolding computed
 self-shadows-1-in-8 = tt
 
-pub self-shadows-2-in-8 : T (exports (take 66 empty ++ (2 ∷ 0 ∷ 0 ∷ 0 ∷ []) ++ replicate 8 7) empty && figures (take 66 empty ++ (2 ∷ 0 ∷ 0 ∷ 0 ∷ []) ++ replicate 8 7) (0 ∷ 0 ∷ 0 ∷ 0 ∷ 0 ∷ 0 ∷ 0 ∷ 0 ∷ []))
+pub self-shadows-2-in-8 : T (exports (take 66 empty ++ (2 ∷ 0 ∷ 0 ∷ 0 ∷ []) ++ replicate 8 7) empty && figures (take 66 empty ++ (2 ∷ 0 ∷ 0 ∷ 0 ∷ []) ++ replicate 8 7) (0 ∷ 0 ∷ 0 ∷ 0 ∷ 0 ∷ 0 ∷ 0 ∷ 0 ∷ 0 ∷ []))
 unfolding computed
 self-shadows-2-in-8 = tt
 
-pub self-shadows-2147483647-in-8 : T (exports (take 66 empty ++ (255 ∷ 255 ∷ 255 ∷ 127 ∷ []) ++ replicate 8 7) empty && figures (take 66 empty ++ (255 ∷ 255 ∷ 255 ∷ 127 ∷ []) ++ replicate 8 7) (0 ∷ 0 ∷ 0 ∷ 0 ∷ 0 ∷ 0 ∷ 0 ∷ 0 ∷ []))
+pub self-shadows-2147483647-in-8 : T (exports (take 66 empty ++ (255 ∷ 255 ∷ 255 ∷ 127 ∷ []) ++ replicate 8 7) empty && figures (take 66 empty ++ (255 ∷ 255 ∷ 255 ∷ 127 ∷ []) ++ replicate 8 7) (0 ∷ 0 ∷ 0 ∷ 0 ∷ 0 ∷ 0 ∷ 0 ∷ 0 ∷ 0 ∷ []))
 unfolding computed
 self-shadows-2147483647-in-8 = tt
 
-pub self-shadows-4294967295-in-8 : T (exports (take 66 empty ++ replicate 4 255 ++ replicate 8 7) empty && figures (take 66 empty ++ replicate 4 255 ++ replicate 8 7) (0 ∷ 0 ∷ 0 ∷ 0 ∷ 0 ∷ 0 ∷ 0 ∷ 0 ∷ []))
+pub self-shadows-4294967295-in-8 : T (exports (take 66 empty ++ replicate 4 255 ++ replicate 8 7) empty && figures (take 66 empty ++ replicate 4 255 ++ replicate 8 7) (0 ∷ 0 ∷ 0 ∷ 0 ∷ 0 ∷ 0 ∷ 0 ∷ 0 ∷ 0 ∷ []))
 unfolding computed
 self-shadows-4294967295-in-8 = tt
 
-pub self-shadows-477218589-in-8 : T (exports (take 66 empty ++ (29 ∷ 199 ∷ 113 ∷ 28 ∷ []) ++ replicate 8 7) empty && figures (take 66 empty ++ (29 ∷ 199 ∷ 113 ∷ 28 ∷ []) ++ replicate 8 7) (0 ∷ 0 ∷ 0 ∷ 0 ∷ 0 ∷ 0 ∷ 0 ∷ 0 ∷ []))
+pub self-shadows-477218589-in-8 : T (exports (take 66 empty ++ (29 ∷ 199 ∷ 113 ∷ 28 ∷ []) ++ replicate 8 7) empty && figures (take 66 empty ++ (29 ∷ 199 ∷ 113 ∷ 28 ∷ []) ++ replicate 8 7) (0 ∷ 0 ∷ 0 ∷ 0 ∷ 0 ∷ 0 ∷ 0 ∷ 0 ∷ 0 ∷ []))
 unfolding computed
 self-shadows-477218589-in-8 = tt
 
-pub self-shadows-1-in-9 : T (exports (take 66 empty ++ (1 ∷ 0 ∷ 0 ∷ 0 ∷ []) ++ replicate 9 7) (take 66 empty ++ (1 ∷ 0 ∷ 0 ∷ 0 ∷ []) ++ replicate 9 7 ++ replicate 4 0) && figures (take 66 empty ++ (1 ∷ 0 ∷ 0 ∷ 0 ∷ []) ++ replicate 9 7) (0 ∷ 0 ∷ 0 ∷ 0 ∷ 1 ∷ 0 ∷ 0 ∷ 0x07070707 ∷ []))
+pub self-shadows-1-in-9 : T (exports (take 66 empty ++ (1 ∷ 0 ∷ 0 ∷ 0 ∷ []) ++ replicate 9 7) (take 66 empty ++ (1 ∷ 0 ∷ 0 ∷ 0 ∷ []) ++ replicate 9 7 ++ replicate 4 0) && figures (take 66 empty ++ (1 ∷ 0 ∷ 0 ∷ 0 ∷ []) ++ replicate 9 7) (0 ∷ 0 ∷ 0 ∷ 0 ∷ 1 ∷ 0 ∷ 0 ∷ 0x07070707 ∷ 0x07070707 ∷ []))
 unfolding computed
 self-shadows-1-in-9 = tt
 
-pub self-shadows-2-in-9 : T (exports (take 66 empty ++ (2 ∷ 0 ∷ 0 ∷ 0 ∷ []) ++ replicate 9 7) empty && figures (take 66 empty ++ (2 ∷ 0 ∷ 0 ∷ 0 ∷ []) ++ replicate 9 7) (0 ∷ 0 ∷ 0 ∷ 0 ∷ 0 ∷ 0 ∷ 0 ∷ 0 ∷ []))
+pub self-shadows-2-in-9 : T (exports (take 66 empty ++ (2 ∷ 0 ∷ 0 ∷ 0 ∷ []) ++ replicate 9 7) empty && figures (take 66 empty ++ (2 ∷ 0 ∷ 0 ∷ 0 ∷ []) ++ replicate 9 7) (0 ∷ 0 ∷ 0 ∷ 0 ∷ 0 ∷ 0 ∷ 0 ∷ 0 ∷ 0 ∷ []))
 unfolding computed
 self-shadows-2-in-9 = tt
 
-pub self-shadows-2147483647-in-9 : T (exports (take 66 empty ++ (255 ∷ 255 ∷ 255 ∷ 127 ∷ []) ++ replicate 9 7) empty && figures (take 66 empty ++ (255 ∷ 255 ∷ 255 ∷ 127 ∷ []) ++ replicate 9 7) (0 ∷ 0 ∷ 0 ∷ 0 ∷ 0 ∷ 0 ∷ 0 ∷ 0 ∷ []))
+pub self-shadows-2147483647-in-9 : T (exports (take 66 empty ++ (255 ∷ 255 ∷ 255 ∷ 127 ∷ []) ++ replicate 9 7) empty && figures (take 66 empty ++ (255 ∷ 255 ∷ 255 ∷ 127 ∷ []) ++ replicate 9 7) (0 ∷ 0 ∷ 0 ∷ 0 ∷ 0 ∷ 0 ∷ 0 ∷ 0 ∷ 0 ∷ []))
 unfolding computed
 self-shadows-2147483647-in-9 = tt
 
-pub self-shadows-4294967295-in-9 : T (exports (take 66 empty ++ replicate 4 255 ++ replicate 9 7) empty && figures (take 66 empty ++ replicate 4 255 ++ replicate 9 7) (0 ∷ 0 ∷ 0 ∷ 0 ∷ 0 ∷ 0 ∷ 0 ∷ 0 ∷ []))
+pub self-shadows-4294967295-in-9 : T (exports (take 66 empty ++ replicate 4 255 ++ replicate 9 7) empty && figures (take 66 empty ++ replicate 4 255 ++ replicate 9 7) (0 ∷ 0 ∷ 0 ∷ 0 ∷ 0 ∷ 0 ∷ 0 ∷ 0 ∷ 0 ∷ []))
 unfolding computed
 self-shadows-4294967295-in-9 = tt
 
-pub self-shadows-477218589-in-9 : T (exports (take 66 empty ++ (29 ∷ 199 ∷ 113 ∷ 28 ∷ []) ++ replicate 9 7) empty && figures (take 66 empty ++ (29 ∷ 199 ∷ 113 ∷ 28 ∷ []) ++ replicate 9 7) (0 ∷ 0 ∷ 0 ∷ 0 ∷ 0 ∷ 0 ∷ 0 ∷ 0 ∷ []))
+pub self-shadows-477218589-in-9 : T (exports (take 66 empty ++ (29 ∷ 199 ∷ 113 ∷ 28 ∷ []) ++ replicate 9 7) empty && figures (take 66 empty ++ (29 ∷ 199 ∷ 113 ∷ 28 ∷ []) ++ replicate 9 7) (0 ∷ 0 ∷ 0 ∷ 0 ∷ 0 ∷ 0 ∷ 0 ∷ 0 ∷ 0 ∷ []))
 unfolding computed
 self-shadows-477218589-in-9 = tt
 
@@ -395,15 +395,15 @@ pub self-shadows-2-in-19 : T (refuses (take 66 empty ++ (2 ∷ 0 ∷ 0 ∷ 0 ∷
 unfolding computed
 self-shadows-2-in-19 = tt
 
-pub self-shadows-2147483647-in-19 : T (exports (take 66 empty ++ (255 ∷ 255 ∷ 255 ∷ 127 ∷ []) ++ replicate 19 7) empty && figures (take 66 empty ++ (255 ∷ 255 ∷ 255 ∷ 127 ∷ []) ++ replicate 19 7) (0 ∷ 0 ∷ 0 ∷ 0 ∷ 0 ∷ 0 ∷ 0 ∷ 0 ∷ []))
+pub self-shadows-2147483647-in-19 : T (exports (take 66 empty ++ (255 ∷ 255 ∷ 255 ∷ 127 ∷ []) ++ replicate 19 7) empty && figures (take 66 empty ++ (255 ∷ 255 ∷ 255 ∷ 127 ∷ []) ++ replicate 19 7) (0 ∷ 0 ∷ 0 ∷ 0 ∷ 0 ∷ 0 ∷ 0 ∷ 0 ∷ 0 ∷ []))
 unfolding computed
 self-shadows-2147483647-in-19 = tt
 
-pub self-shadows-4294967295-in-19 : T (exports (take 66 empty ++ replicate 4 255 ++ replicate 19 7) empty && figures (take 66 empty ++ replicate 4 255 ++ replicate 19 7) (0 ∷ 0 ∷ 0 ∷ 0 ∷ 0 ∷ 0 ∷ 0 ∷ 0 ∷ []))
+pub self-shadows-4294967295-in-19 : T (exports (take 66 empty ++ replicate 4 255 ++ replicate 19 7) empty && figures (take 66 empty ++ replicate 4 255 ++ replicate 19 7) (0 ∷ 0 ∷ 0 ∷ 0 ∷ 0 ∷ 0 ∷ 0 ∷ 0 ∷ 0 ∷ []))
 unfolding computed
 self-shadows-4294967295-in-19 = tt
 
-pub self-shadows-477218589-in-19 : T (exports (take 66 empty ++ (29 ∷ 199 ∷ 113 ∷ 28 ∷ []) ++ replicate 19 7) empty && figures (take 66 empty ++ (29 ∷ 199 ∷ 113 ∷ 28 ∷ []) ++ replicate 19 7) (0 ∷ 0 ∷ 0 ∷ 0 ∷ 0 ∷ 0 ∷ 0 ∷ 0 ∷ []))
+pub self-shadows-477218589-in-19 : T (exports (take 66 empty ++ (29 ∷ 199 ∷ 113 ∷ 28 ∷ []) ++ replicate 19 7) empty && figures (take 66 empty ++ (29 ∷ 199 ∷ 113 ∷ 28 ∷ []) ++ replicate 19 7) (0 ∷ 0 ∷ 0 ∷ 0 ∷ 0 ∷ 0 ∷ 0 ∷ 0 ∷ 0 ∷ []))
 unfolding computed
 self-shadows-477218589-in-19 = tt
 

@@ -59,7 +59,7 @@ pub cut-164 : T (refuses (take 164 six) 1)
 unfolding computed
 cut-164 = tt
 
-pub cut-165 : T (exports (take 165 six) (take 165 six-out ++ replicate 12 0 ++ drop 358 six-out) && figures (take 165 six) (1 ∷ 0 ∷ 0 ∷ 0 ∷ 0 ∷ 0 ∷ 0 ∷ 7 ∷ []))
+pub cut-165 : T (exports (take 165 six) (take 165 six-out ++ replicate 12 0 ++ drop 358 six-out) && figures (take 165 six) (1 ∷ 0 ∷ 0 ∷ 0 ∷ 0 ∷ 0 ∷ 0 ∷ 7 ∷ 7 ∷ []))
 unfolding computed
 cut-165 = tt
 
@@ -83,7 +83,7 @@ pub cut-191 : T (refuses (take 191 six) 1)
 unfolding computed
 cut-191 = tt
 
-pub cut-192 : T (exports (take 192 six) (take 192 six-out ++ replicate 8 0 ++ drop 358 six-out) && figures (take 192 six) (1 ∷ 1 ∷ 0 ∷ 0 ∷ 0 ∷ 0 ∷ 0 ∷ 9 ∷ []))
+pub cut-192 : T (exports (take 192 six) (take 192 six-out ++ replicate 8 0 ++ drop 358 six-out) && figures (take 192 six) (1 ∷ 1 ∷ 0 ∷ 0 ∷ 0 ∷ 0 ∷ 0 ∷ 7 ∷ 9 ∷ []))
 unfolding computed
 cut-192 = tt
 
@@ -95,19 +95,19 @@ pub cut-195 : T (refuses (take 195 six) 1)
 unfolding computed
 cut-195 = tt
 
-pub cut-196 : T (exports (take 196 six) (take 192 six-out ++ replicate 8 0 ++ drop 358 six-out) && figures (take 196 six) (1 ∷ 1 ∷ 0 ∷ 0 ∷ 0 ∷ 0 ∷ 0 ∷ 9 ∷ []))
+pub cut-196 : T (exports (take 196 six) (take 192 six-out ++ replicate 8 0 ++ drop 358 six-out) && figures (take 196 six) (1 ∷ 1 ∷ 0 ∷ 0 ∷ 0 ∷ 0 ∷ 0 ∷ 7 ∷ 9 ∷ []))
 unfolding computed
 cut-196 = tt
 
-pub cut-197 : T (exports (take 197 six) (take 192 six-out ++ replicate 8 0 ++ drop 358 six-out) && figures (take 197 six) (1 ∷ 1 ∷ 0 ∷ 0 ∷ 0 ∷ 0 ∷ 0 ∷ 9 ∷ []))
+pub cut-197 : T (exports (take 197 six) (take 192 six-out ++ replicate 8 0 ++ drop 358 six-out) && figures (take 197 six) (1 ∷ 1 ∷ 0 ∷ 0 ∷ 0 ∷ 0 ∷ 0 ∷ 7 ∷ 9 ∷ []))
 unfolding computed
 cut-197 = tt
 
-pub cut-256 : T (exports (take 256 six) (take 192 six-out ++ replicate 8 0 ++ drop 358 six-out) && figures (take 256 six) (1 ∷ 1 ∷ 0 ∷ 0 ∷ 0 ∷ 0 ∷ 0 ∷ 9 ∷ []))
+pub cut-256 : T (exports (take 256 six) (take 192 six-out ++ replicate 8 0 ++ drop 358 six-out) && figures (take 256 six) (1 ∷ 1 ∷ 0 ∷ 0 ∷ 0 ∷ 0 ∷ 0 ∷ 7 ∷ 9 ∷ []))
 unfolding computed
 cut-256 = tt
 
-pub cut-257 : T (exports (take 257 six) (take 257 six-out ++ replicate 4 0 ++ drop 358 six-out) && figures (take 257 six) (1 ∷ 1 ∷ 1 ∷ 0 ∷ 0 ∷ 0 ∷ 0 ∷ 9 ∷ []))
+pub cut-257 : T (exports (take 257 six) (take 257 six-out ++ replicate 4 0 ++ drop 358 six-out) && figures (take 257 six) (1 ∷ 1 ∷ 1 ∷ 0 ∷ 0 ∷ 0 ∷ 0 ∷ 5 ∷ 9 ∷ []))
 unfolding computed
 cut-257 = tt
 
@@ -119,19 +119,19 @@ pub cut-260 : T (refuses (take 260 six) 1)
 unfolding computed
 cut-260 = tt
 
-pub cut-261 : T (exports (take 261 six) (take 257 six-out ++ replicate 4 0 ++ drop 358 six-out) && figures (take 261 six) (1 ∷ 1 ∷ 1 ∷ 0 ∷ 0 ∷ 0 ∷ 0 ∷ 9 ∷ []))
+pub cut-261 : T (exports (take 261 six) (take 257 six-out ++ replicate 4 0 ++ drop 358 six-out) && figures (take 261 six) (1 ∷ 1 ∷ 1 ∷ 0 ∷ 0 ∷ 0 ∷ 0 ∷ 5 ∷ 9 ∷ []))
 unfolding computed
 cut-261 = tt
 
-pub cut-262 : T (exports (take 262 six) (take 257 six-out ++ replicate 4 0 ++ drop 358 six-out) && figures (take 262 six) (1 ∷ 1 ∷ 1 ∷ 0 ∷ 0 ∷ 0 ∷ 0 ∷ 9 ∷ []))
+pub cut-262 : T (exports (take 262 six) (take 257 six-out ++ replicate 4 0 ++ drop 358 six-out) && figures (take 262 six) (1 ∷ 1 ∷ 1 ∷ 0 ∷ 0 ∷ 0 ∷ 0 ∷ 5 ∷ 9 ∷ []))
 unfolding computed
 cut-262 = tt
 
-pub cut-288 : T (exports (take 288 six) (take 257 six-out ++ replicate 4 0 ++ drop 358 six-out) && figures (take 288 six) (1 ∷ 1 ∷ 1 ∷ 0 ∷ 0 ∷ 0 ∷ 0 ∷ 9 ∷ []))
+pub cut-288 : T (exports (take 288 six) (take 257 six-out ++ replicate 4 0 ++ drop 358 six-out) && figures (take 288 six) (1 ∷ 1 ∷ 1 ∷ 0 ∷ 0 ∷ 0 ∷ 0 ∷ 5 ∷ 9 ∷ []))
 unfolding computed
 cut-288 = tt
 
-pub cut-289 : T (exports (take 289 six) (take 289 six-out ++ drop 358 six-out) && figures (take 289 six) (1 ∷ 1 ∷ 1 ∷ 1 ∷ 0 ∷ 0 ∷ 0 ∷ 9 ∷ []))
+pub cut-289 : T (exports (take 289 six) (take 289 six-out ++ drop 358 six-out) && figures (take 289 six) (1 ∷ 1 ∷ 1 ∷ 1 ∷ 0 ∷ 0 ∷ 0 ∷ 4 ∷ 9 ∷ []))
 unfolding computed
 cut-289 = tt
 
@@ -143,19 +143,19 @@ pub cut-292 : T (refuses (take 292 six) 1)
 unfolding computed
 cut-292 = tt
 
-pub cut-293 : T (exports (take 293 six) (take 289 six-out ++ drop 358 six-out) && figures (take 293 six) (1 ∷ 1 ∷ 1 ∷ 1 ∷ 0 ∷ 0 ∷ 0 ∷ 9 ∷ []))
+pub cut-293 : T (exports (take 293 six) (take 289 six-out ++ drop 358 six-out) && figures (take 293 six) (1 ∷ 1 ∷ 1 ∷ 1 ∷ 0 ∷ 0 ∷ 0 ∷ 4 ∷ 9 ∷ []))
 unfolding computed
 cut-293 = tt
 
-pub cut-294 : T (exports (take 294 six) (take 289 six-out ++ drop 358 six-out) && figures (take 294 six) (1 ∷ 1 ∷ 1 ∷ 1 ∷ 0 ∷ 0 ∷ 0 ∷ 9 ∷ []))
+pub cut-294 : T (exports (take 294 six) (take 289 six-out ++ drop 358 six-out) && figures (take 294 six) (1 ∷ 1 ∷ 1 ∷ 1 ∷ 0 ∷ 0 ∷ 0 ∷ 4 ∷ 9 ∷ []))
 unfolding computed
 cut-294 = tt
 
-pub cut-301 : T (exports (take 301 six) (take 289 six-out ++ drop 358 six-out) && figures (take 301 six) (1 ∷ 1 ∷ 1 ∷ 1 ∷ 0 ∷ 0 ∷ 0 ∷ 9 ∷ []))
+pub cut-301 : T (exports (take 301 six) (take 289 six-out ++ drop 358 six-out) && figures (take 301 six) (1 ∷ 1 ∷ 1 ∷ 1 ∷ 0 ∷ 0 ∷ 0 ∷ 4 ∷ 9 ∷ []))
 unfolding computed
 cut-301 = tt
 
-pub cut-302 : T (exports (take 302 six) (take 302 six-out ++ replicate 4 0) && figures (take 302 six) (1 ∷ 1 ∷ 1 ∷ 1 ∷ 1 ∷ 0 ∷ 0 ∷ 9 ∷ []))
+pub cut-302 : T (exports (take 302 six) (take 302 six-out ++ replicate 4 0) && figures (take 302 six) (1 ∷ 1 ∷ 1 ∷ 1 ∷ 1 ∷ 0 ∷ 0 ∷ 3 ∷ 9 ∷ []))
 unfolding computed
 cut-302 = tt
 
@@ -247,26 +247,26 @@ pub cut-365 : T (refuses (take 365 six) 1)
 unfolding computed
 cut-365 = tt
 
-pub cut-366 : T (exports six six-out && figures six (1 ∷ 1 ∷ 1 ∷ 1 ∷ 1 ∷ 2 ∷ 2 ∷ 70000 ∷ []))
+pub cut-366 : T (exports six six-out && figures six (1 ∷ 1 ∷ 1 ∷ 1 ∷ 1 ∷ 2 ∷ 2 ∷ 3 ∷ 70000 ∷ []))
 unfolding computed
 cut-366 = tt
 
-pub over-1 : T (exports (six ++ (1 ∷ [])) six-out && figures (six ++ (1 ∷ [])) (1 ∷ 1 ∷ 1 ∷ 1 ∷ 1 ∷ 2 ∷ 2 ∷ 70000 ∷ []))
+pub over-1 : T (exports (six ++ (1 ∷ [])) six-out && figures (six ++ (1 ∷ [])) (1 ∷ 1 ∷ 1 ∷ 1 ∷ 1 ∷ 2 ∷ 2 ∷ 3 ∷ 70000 ∷ []))
 unfolding computed
 over-1 = tt
 
-pub over-2 : T (exports (six ++ (1 ∷ 2 ∷ [])) six-out && figures (six ++ (1 ∷ 2 ∷ [])) (1 ∷ 1 ∷ 1 ∷ 1 ∷ 1 ∷ 2 ∷ 2 ∷ 70000 ∷ []))
+pub over-2 : T (exports (six ++ (1 ∷ 2 ∷ [])) six-out && figures (six ++ (1 ∷ 2 ∷ [])) (1 ∷ 1 ∷ 1 ∷ 1 ∷ 1 ∷ 2 ∷ 2 ∷ 3 ∷ 70000 ∷ []))
 unfolding computed
 over-2 = tt
 
-pub over-3 : T (exports (six ++ (1 ∷ 2 ∷ 3 ∷ [])) six-out && figures (six ++ (1 ∷ 2 ∷ 3 ∷ [])) (1 ∷ 1 ∷ 1 ∷ 1 ∷ 1 ∷ 2 ∷ 2 ∷ 70000 ∷ []))
+pub over-3 : T (exports (six ++ (1 ∷ 2 ∷ 3 ∷ [])) six-out && figures (six ++ (1 ∷ 2 ∷ 3 ∷ [])) (1 ∷ 1 ∷ 1 ∷ 1 ∷ 1 ∷ 2 ∷ 2 ∷ 3 ∷ 70000 ∷ []))
 unfolding computed
 over-3 = tt
 
-pub over-4 : T (exports (six ++ (1 ∷ 2 ∷ 3 ∷ 4 ∷ [])) six-out && figures (six ++ (1 ∷ 2 ∷ 3 ∷ 4 ∷ [])) (1 ∷ 1 ∷ 1 ∷ 1 ∷ 1 ∷ 2 ∷ 2 ∷ 70000 ∷ []))
+pub over-4 : T (exports (six ++ (1 ∷ 2 ∷ 3 ∷ 4 ∷ [])) six-out && figures (six ++ (1 ∷ 2 ∷ 3 ∷ 4 ∷ [])) (1 ∷ 1 ∷ 1 ∷ 1 ∷ 1 ∷ 2 ∷ 2 ∷ 3 ∷ 70000 ∷ []))
 unfolding computed
 over-4 = tt
 
-pub over-5 : T (exports (six ++ (1 ∷ 2 ∷ 3 ∷ 4 ∷ 5 ∷ [])) six-out && figures (six ++ (1 ∷ 2 ∷ 3 ∷ 4 ∷ 5 ∷ [])) (1 ∷ 1 ∷ 1 ∷ 1 ∷ 1 ∷ 2 ∷ 2 ∷ 70000 ∷ []))
+pub over-5 : T (exports (six ++ (1 ∷ 2 ∷ 3 ∷ 4 ∷ 5 ∷ [])) six-out && figures (six ++ (1 ∷ 2 ∷ 3 ∷ 4 ∷ 5 ∷ [])) (1 ∷ 1 ∷ 1 ∷ 1 ∷ 1 ∷ 2 ∷ 2 ∷ 3 ∷ 70000 ∷ []))
 unfolding computed
 over-5 = tt

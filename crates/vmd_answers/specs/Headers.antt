@@ -19,7 +19,7 @@ pub take-2 : T (refuses (take 50 empty) 1)
 unfolding computed
 take-2 = tt
 
-pub take-3 : T (exports (take 54 empty) empty && figures (take 54 empty) (0 ∷ 0 ∷ 0 ∷ 0 ∷ 0 ∷ 0 ∷ 0 ∷ 0 ∷ []))
+pub take-3 : T (exports (take 54 empty) empty && figures (take 54 empty) (0 ∷ 0 ∷ 0 ∷ 0 ∷ 0 ∷ 0 ∷ 0 ∷ 0 ∷ 0 ∷ []))
 unfolding computed
 take-3 = tt
 
@@ -31,7 +31,7 @@ pub take-5 : T (refuses (take 54 empty ++ (1 ∷ 0 ∷ 0 ∷ 0 ∷ [])) 1)
 unfolding computed
 take-5 = tt
 
-pub take-6 : T (exports (take 58 empty ++ (1 ∷ 0 ∷ 0 ∷ 0 ∷ [])) empty && figures (take 58 empty ++ (1 ∷ 0 ∷ 0 ∷ 0 ∷ [])) (0 ∷ 0 ∷ 0 ∷ 0 ∷ 0 ∷ 0 ∷ 0 ∷ 0 ∷ []))
+pub take-6 : T (exports (take 58 empty ++ (1 ∷ 0 ∷ 0 ∷ 0 ∷ [])) empty && figures (take 58 empty ++ (1 ∷ 0 ∷ 0 ∷ 0 ∷ [])) (0 ∷ 0 ∷ 0 ∷ 0 ∷ 0 ∷ 0 ∷ 0 ∷ 0 ∷ 0 ∷ []))
 unfolding computed
 take-6 = tt
 
@@ -39,23 +39,23 @@ pub take-7 : T (refuses (take 70 empty ++ (1 ∷ 0 ∷ 0 ∷ 0 ∷ [])) 1)
 unfolding computed
 take-7 = tt
 
-pub take-8 : T (exports (magic ++ replicate 32 0 ++ (1 ∷ []) ++ replicate 64 0) (magic ++ replicate 32 0 ++ (1 ∷ []) ++ replicate 76 0) && figures (magic ++ replicate 32 0 ++ (1 ∷ []) ++ replicate 64 0) (0 ∷ 0 ∷ 1 ∷ 0 ∷ 0 ∷ 0 ∷ 0 ∷ 0 ∷ []))
+pub take-8 : T (exports (magic ++ replicate 32 0 ++ (1 ∷ []) ++ replicate 64 0) (magic ++ replicate 32 0 ++ (1 ∷ []) ++ replicate 76 0) && figures (magic ++ replicate 32 0 ++ (1 ∷ []) ++ replicate 64 0) (0 ∷ 0 ∷ 1 ∷ 0 ∷ 0 ∷ 0 ∷ 0 ∷ 0 ∷ 0 ∷ []))
 unfolding computed
 take-8 = tt
 
-pub take-9 : T (exports (take 58 empty ++ (1 ∷ []) ++ replicate 63 0 ++ (1 ∷ [])) (take 58 empty ++ (1 ∷ []) ++ replicate 63 0 ++ (1 ∷ []) ++ drop 62 empty) && figures (take 58 empty ++ (1 ∷ []) ++ replicate 63 0 ++ (1 ∷ [])) (0 ∷ 0 ∷ 1 ∷ 0 ∷ 0 ∷ 0 ∷ 0 ∷ 0 ∷ []))
+pub take-9 : T (exports (take 58 empty ++ (1 ∷ []) ++ replicate 63 0 ++ (1 ∷ [])) (take 58 empty ++ (1 ∷ []) ++ replicate 63 0 ++ (1 ∷ []) ++ drop 62 empty) && figures (take 58 empty ++ (1 ∷ []) ++ replicate 63 0 ++ (1 ∷ [])) (0 ∷ 0 ∷ 1 ∷ 0 ∷ 0 ∷ 0 ∷ 0 ∷ 0 ∷ 0 ∷ []))
 unfolding computed
 take-9 = tt
 
-pub take-10 : T (exports (take 58 empty ++ (1 ∷ []) ++ replicate 63 0 ++ (2 ∷ [])) (take 58 empty ++ (1 ∷ []) ++ replicate 63 0 ++ (1 ∷ []) ++ drop 62 empty) && figures (take 58 empty ++ (1 ∷ []) ++ replicate 63 0 ++ (2 ∷ [])) (0 ∷ 0 ∷ 1 ∷ 0 ∷ 0 ∷ 0 ∷ 0 ∷ 0 ∷ []))
+pub take-10 : T (exports (take 58 empty ++ (1 ∷ []) ++ replicate 63 0 ++ (2 ∷ [])) (take 58 empty ++ (1 ∷ []) ++ replicate 63 0 ++ (1 ∷ []) ++ drop 62 empty) && figures (take 58 empty ++ (1 ∷ []) ++ replicate 63 0 ++ (2 ∷ [])) (0 ∷ 0 ∷ 1 ∷ 0 ∷ 0 ∷ 0 ∷ 0 ∷ 0 ∷ 0 ∷ []))
 unfolding computed
 take-10 = tt
 
-pub take-11 : T (exports (take 54 empty ++ (1 ∷ 0 ∷ 0 ∷ 0 ∷ 65 ∷ 0 ∷ 66 ∷ []) ++ drop 54 empty) (magic ++ replicate 28 0 ++ (1 ∷ 0 ∷ 0 ∷ 0 ∷ 65 ∷ []) ++ replicate 38 0) && figures (take 54 empty ++ (1 ∷ 0 ∷ 0 ∷ 0 ∷ 65 ∷ 0 ∷ 66 ∷ []) ++ drop 54 empty) (0 ∷ 1 ∷ 0 ∷ 0 ∷ 0 ∷ 0 ∷ 0 ∷ 0 ∷ []))
+pub take-11 : T (exports (take 54 empty ++ (1 ∷ 0 ∷ 0 ∷ 0 ∷ 65 ∷ 0 ∷ 66 ∷ []) ++ drop 54 empty) (magic ++ replicate 28 0 ++ (1 ∷ 0 ∷ 0 ∷ 0 ∷ 65 ∷ []) ++ replicate 38 0) && figures (take 54 empty ++ (1 ∷ 0 ∷ 0 ∷ 0 ∷ 65 ∷ 0 ∷ 66 ∷ []) ++ drop 54 empty) (0 ∷ 1 ∷ 0 ∷ 0 ∷ 0 ∷ 0 ∷ 0 ∷ 0 ∷ 0 ∷ []))
 unfolding computed
 take-11 = tt
 
-pub take-12 : T (exports (magic ++ replicate 24 0 ++ (1 ∷ []) ++ replicate 134 0) (magic ++ replicate 24 0 ++ (1 ∷ []) ++ replicate 134 0) && figures (magic ++ replicate 24 0 ++ (1 ∷ []) ++ replicate 134 0) (1 ∷ 0 ∷ 0 ∷ 0 ∷ 0 ∷ 0 ∷ 0 ∷ 0 ∷ []))
+pub take-12 : T (exports (magic ++ replicate 24 0 ++ (1 ∷ []) ++ replicate 134 0) (magic ++ replicate 24 0 ++ (1 ∷ []) ++ replicate 134 0) && figures (magic ++ replicate 24 0 ++ (1 ∷ []) ++ replicate 134 0) (1 ∷ 0 ∷ 0 ∷ 0 ∷ 0 ∷ 0 ∷ 0 ∷ 0 ∷ 0 ∷ []))
 unfolding computed
 take-12 = tt
 
@@ -275,7 +275,7 @@ pub prefix-53 : T (refuses (take 53 empty) 1)
 unfolding computed
 prefix-53 = tt
 
-pub prefix-54 : T (exports (take 54 empty) empty && figures (take 54 empty) (0 ∷ 0 ∷ 0 ∷ 0 ∷ 0 ∷ 0 ∷ 0 ∷ 0 ∷ []))
+pub prefix-54 : T (exports (take 54 empty) empty && figures (take 54 empty) (0 ∷ 0 ∷ 0 ∷ 0 ∷ 0 ∷ 0 ∷ 0 ∷ 0 ∷ 0 ∷ []))
 unfolding computed
 prefix-54 = tt
 
@@ -291,7 +291,7 @@ pub prefix-57 : T (refuses (take 57 empty) 1)
 unfolding computed
 prefix-57 = tt
 
-pub prefix-58 : T (exports (take 58 empty) empty && figures (take 58 empty) (0 ∷ 0 ∷ 0 ∷ 0 ∷ 0 ∷ 0 ∷ 0 ∷ 0 ∷ []))
+pub prefix-58 : T (exports (take 58 empty) empty && figures (take 58 empty) (0 ∷ 0 ∷ 0 ∷ 0 ∷ 0 ∷ 0 ∷ 0 ∷ 0 ∷ 0 ∷ []))
 unfolding computed
 prefix-58 = tt
 
@@ -307,7 +307,7 @@ pub prefix-61 : T (refuses (take 61 empty) 1)
 unfolding computed
 prefix-61 = tt
 
-pub prefix-62 : T (exports (take 62 empty) empty && figures (take 62 empty) (0 ∷ 0 ∷ 0 ∷ 0 ∷ 0 ∷ 0 ∷ 0 ∷ 0 ∷ []))
+pub prefix-62 : T (exports (take 62 empty) empty && figures (take 62 empty) (0 ∷ 0 ∷ 0 ∷ 0 ∷ 0 ∷ 0 ∷ 0 ∷ 0 ∷ 0 ∷ []))
 unfolding computed
 prefix-62 = tt
 
@@ -323,7 +323,7 @@ pub prefix-65 : T (refuses (take 65 empty) 1)
 unfolding computed
 prefix-65 = tt
 
-pub prefix-66 : T (exports (take 66 empty) empty && figures (take 66 empty) (0 ∷ 0 ∷ 0 ∷ 0 ∷ 0 ∷ 0 ∷ 0 ∷ 0 ∷ []))
+pub prefix-66 : T (exports (take 66 empty) empty && figures (take 66 empty) (0 ∷ 0 ∷ 0 ∷ 0 ∷ 0 ∷ 0 ∷ 0 ∷ 0 ∷ 0 ∷ []))
 unfolding computed
 prefix-66 = tt
 
@@ -339,7 +339,7 @@ pub prefix-69 : T (refuses (take 69 empty) 1)
 unfolding computed
 prefix-69 = tt
 
-pub prefix-70 : T (exports (take 70 empty) empty && figures (take 70 empty) (0 ∷ 0 ∷ 0 ∷ 0 ∷ 0 ∷ 0 ∷ 0 ∷ 0 ∷ []))
+pub prefix-70 : T (exports (take 70 empty) empty && figures (take 70 empty) (0 ∷ 0 ∷ 0 ∷ 0 ∷ 0 ∷ 0 ∷ 0 ∷ 0 ∷ 0 ∷ []))
 unfolding computed
 prefix-70 = tt
 
@@ -355,7 +355,7 @@ pub prefix-73 : T (refuses (take 73 empty) 1)
 unfolding computed
 prefix-73 = tt
 
-pub prefix-74 : T (exports empty empty && figures empty (0 ∷ 0 ∷ 0 ∷ 0 ∷ 0 ∷ 0 ∷ 0 ∷ 0 ∷ []))
+pub prefix-74 : T (exports empty empty && figures empty (0 ∷ 0 ∷ 0 ∷ 0 ∷ 0 ∷ 0 ∷ 0 ∷ 0 ∷ 0 ∷ []))
 unfolding computed
 prefix-74 = tt
 
@@ -487,23 +487,23 @@ pub short-header-25 : T (refuses (take 25 magic ++ (33 ∷ []) ++ replicate 9 0)
 unfolding computed
 short-header-25 = tt
 
-pub header-26 : T (exports (magic ++ (33 ∷ []) ++ replicate 47 0) empty && figures (magic ++ (33 ∷ []) ++ replicate 47 0) (0 ∷ 0 ∷ 0 ∷ 0 ∷ 0 ∷ 0 ∷ 0 ∷ 0 ∷ []))
+pub header-26 : T (exports (magic ++ (33 ∷ []) ++ replicate 47 0) empty && figures (magic ++ (33 ∷ []) ++ replicate 47 0) (0 ∷ 0 ∷ 0 ∷ 0 ∷ 0 ∷ 0 ∷ 0 ∷ 0 ∷ 0 ∷ []))
 unfolding computed
 header-26 = tt
 
-pub header-27 : T (exports (magic ++ (0 ∷ 33 ∷ []) ++ replicate 46 0) empty && figures (magic ++ (0 ∷ 33 ∷ []) ++ replicate 46 0) (0 ∷ 0 ∷ 0 ∷ 0 ∷ 0 ∷ 0 ∷ 0 ∷ 0 ∷ []))
+pub header-27 : T (exports (magic ++ (0 ∷ 33 ∷ []) ++ replicate 46 0) empty && figures (magic ++ (0 ∷ 33 ∷ []) ++ replicate 46 0) (0 ∷ 0 ∷ 0 ∷ 0 ∷ 0 ∷ 0 ∷ 0 ∷ 0 ∷ 0 ∷ []))
 unfolding computed
 header-27 = tt
 
-pub header-28 : T (exports (take 28 empty ++ (33 ∷ []) ++ drop 29 empty) empty && figures (take 28 empty ++ (33 ∷ []) ++ drop 29 empty) (0 ∷ 0 ∷ 0 ∷ 0 ∷ 0 ∷ 0 ∷ 0 ∷ 0 ∷ []))
+pub header-28 : T (exports (take 28 empty ++ (33 ∷ []) ++ drop 29 empty) empty && figures (take 28 empty ++ (33 ∷ []) ++ drop 29 empty) (0 ∷ 0 ∷ 0 ∷ 0 ∷ 0 ∷ 0 ∷ 0 ∷ 0 ∷ 0 ∷ []))
 unfolding computed
 header-28 = tt
 
-pub header-29 : T (exports (take 29 empty ++ (33 ∷ []) ++ drop 30 empty) empty && figures (take 29 empty ++ (33 ∷ []) ++ drop 30 empty) (0 ∷ 0 ∷ 0 ∷ 0 ∷ 0 ∷ 0 ∷ 0 ∷ 0 ∷ []))
+pub header-29 : T (exports (take 29 empty ++ (33 ∷ []) ++ drop 30 empty) empty && figures (take 29 empty ++ (33 ∷ []) ++ drop 30 empty) (0 ∷ 0 ∷ 0 ∷ 0 ∷ 0 ∷ 0 ∷ 0 ∷ 0 ∷ 0 ∷ []))
 unfolding computed
 header-29 = tt
 
-pub header-30 : T (exports (take 30 empty ++ (33 ∷ []) ++ drop 31 empty) (take 30 empty ++ (33 ∷ []) ++ drop 31 empty) && figures (take 30 empty ++ (33 ∷ []) ++ drop 31 empty) (0 ∷ 0 ∷ 0 ∷ 0 ∷ 0 ∷ 0 ∷ 0 ∷ 0 ∷ []))
+pub header-30 : T (exports (take 30 empty ++ (33 ∷ []) ++ drop 31 empty) (take 30 empty ++ (33 ∷ []) ++ drop 31 empty) && figures (take 30 empty ++ (33 ∷ []) ++ drop 31 empty) (0 ∷ 0 ∷ 0 ∷ 0 ∷ 0 ∷ 0 ∷ 0 ∷ 0 ∷ 0 ∷ []))
 unfolding computed
 header-30 = tt
 
@@ -511,78 +511,78 @@ pub short-header-30 : T (refuses (take 30 empty ++ (33 ∷ []) ++ drop 65 empty)
 unfolding computed
 short-header-30 = tt
 
-pub header-31 : T (exports (take 31 empty ++ (33 ∷ []) ++ drop 32 empty) empty && figures (take 31 empty ++ (33 ∷ []) ++ drop 32 empty) (0 ∷ 0 ∷ 0 ∷ 0 ∷ 0 ∷ 0 ∷ 0 ∷ 0 ∷ []))
+pub header-31 : T (exports (take 31 empty ++ (33 ∷ []) ++ drop 32 empty) empty && figures (take 31 empty ++ (33 ∷ []) ++ drop 32 empty) (0 ∷ 0 ∷ 0 ∷ 0 ∷ 0 ∷ 0 ∷ 0 ∷ 0 ∷ 0 ∷ []))
 unfolding computed
 header-31 = tt
 
-pub header-32 : T (exports (take 32 empty ++ (33 ∷ []) ++ drop 33 empty) empty && figures (take 32 empty ++ (33 ∷ []) ++ drop 33 empty) (0 ∷ 0 ∷ 0 ∷ 0 ∷ 0 ∷ 0 ∷ 0 ∷ 0 ∷ []))
+pub header-32 : T (exports (take 32 empty ++ (33 ∷ []) ++ drop 33 empty) empty && figures (take 32 empty ++ (33 ∷ []) ++ drop 33 empty) (0 ∷ 0 ∷ 0 ∷ 0 ∷ 0 ∷ 0 ∷ 0 ∷ 0 ∷ 0 ∷ []))
 unfolding computed
 header-32 = tt
 
-pub header-33 : T (exports (take 33 empty ++ (33 ∷ []) ++ drop 34 empty) empty && figures (take 33 empty ++ (33 ∷ []) ++ drop 34 empty) (0 ∷ 0 ∷ 0 ∷ 0 ∷ 0 ∷ 0 ∷ 0 ∷ 0 ∷ []))
+pub header-33 : T (exports (take 33 empty ++ (33 ∷ []) ++ drop 34 empty) empty && figures (take 33 empty ++ (33 ∷ []) ++ drop 34 empty) (0 ∷ 0 ∷ 0 ∷ 0 ∷ 0 ∷ 0 ∷ 0 ∷ 0 ∷ 0 ∷ []))
 unfolding computed
 header-33 = tt
 
-pub header-34 : T (exports (take 34 empty ++ (33 ∷ []) ++ drop 35 empty) empty && figures (take 34 empty ++ (33 ∷ []) ++ drop 35 empty) (0 ∷ 0 ∷ 0 ∷ 0 ∷ 0 ∷ 0 ∷ 0 ∷ 0 ∷ []))
+pub header-34 : T (exports (take 34 empty ++ (33 ∷ []) ++ drop 35 empty) empty && figures (take 34 empty ++ (33 ∷ []) ++ drop 35 empty) (0 ∷ 0 ∷ 0 ∷ 0 ∷ 0 ∷ 0 ∷ 0 ∷ 0 ∷ 0 ∷ []))
 unfolding computed
 header-34 = tt
 
-pub header-35 : T (exports (take 35 empty ++ (33 ∷ []) ++ drop 36 empty) empty && figures (take 35 empty ++ (33 ∷ []) ++ drop 36 empty) (0 ∷ 0 ∷ 0 ∷ 0 ∷ 0 ∷ 0 ∷ 0 ∷ 0 ∷ []))
+pub header-35 : T (exports (take 35 empty ++ (33 ∷ []) ++ drop 36 empty) empty && figures (take 35 empty ++ (33 ∷ []) ++ drop 36 empty) (0 ∷ 0 ∷ 0 ∷ 0 ∷ 0 ∷ 0 ∷ 0 ∷ 0 ∷ 0 ∷ []))
 unfolding computed
 header-35 = tt
 
-pub header-36 : T (exports (take 36 empty ++ (33 ∷ []) ++ drop 37 empty) empty && figures (take 36 empty ++ (33 ∷ []) ++ drop 37 empty) (0 ∷ 0 ∷ 0 ∷ 0 ∷ 0 ∷ 0 ∷ 0 ∷ 0 ∷ []))
+pub header-36 : T (exports (take 36 empty ++ (33 ∷ []) ++ drop 37 empty) empty && figures (take 36 empty ++ (33 ∷ []) ++ drop 37 empty) (0 ∷ 0 ∷ 0 ∷ 0 ∷ 0 ∷ 0 ∷ 0 ∷ 0 ∷ 0 ∷ []))
 unfolding computed
 header-36 = tt
 
-pub header-37 : T (exports (take 37 empty ++ (33 ∷ []) ++ drop 38 empty) empty && figures (take 37 empty ++ (33 ∷ []) ++ drop 38 empty) (0 ∷ 0 ∷ 0 ∷ 0 ∷ 0 ∷ 0 ∷ 0 ∷ 0 ∷ []))
+pub header-37 : T (exports (take 37 empty ++ (33 ∷ []) ++ drop 38 empty) empty && figures (take 37 empty ++ (33 ∷ []) ++ drop 38 empty) (0 ∷ 0 ∷ 0 ∷ 0 ∷ 0 ∷ 0 ∷ 0 ∷ 0 ∷ 0 ∷ []))
 unfolding computed
 header-37 = tt
 
-pub header-38 : T (exports (take 38 empty ++ (33 ∷ []) ++ drop 39 empty) empty && figures (take 38 empty ++ (33 ∷ []) ++ drop 39 empty) (0 ∷ 0 ∷ 0 ∷ 0 ∷ 0 ∷ 0 ∷ 0 ∷ 0 ∷ []))
+pub header-38 : T (exports (take 38 empty ++ (33 ∷ []) ++ drop 39 empty) empty && figures (take 38 empty ++ (33 ∷ []) ++ drop 39 empty) (0 ∷ 0 ∷ 0 ∷ 0 ∷ 0 ∷ 0 ∷ 0 ∷ 0 ∷ 0 ∷ []))
 unfolding computed
 header-38 = tt
 
-pub header-39 : T (exports (take 39 empty ++ (33 ∷ []) ++ drop 40 empty) empty && figures (take 39 empty ++ (33 ∷ []) ++ drop 40 empty) (0 ∷ 0 ∷ 0 ∷ 0 ∷ 0 ∷ 0 ∷ 0 ∷ 0 ∷ []))
+pub header-39 : T (exports (take 39 empty ++ (33 ∷ []) ++ drop 40 empty) empty && figures (take 39 empty ++ (33 ∷ []) ++ drop 40 empty) (0 ∷ 0 ∷ 0 ∷ 0 ∷ 0 ∷ 0 ∷ 0 ∷ 0 ∷ 0 ∷ []))
 unfolding computed
 header-39 = tt
 
-pub header-40 : T (exports (take 40 empty ++ (33 ∷ []) ++ drop 41 empty) empty && figures (take 40 empty ++ (33 ∷ []) ++ drop 41 empty) (0 ∷ 0 ∷ 0 ∷ 0 ∷ 0 ∷ 0 ∷ 0 ∷ 0 ∷ []))
+pub header-40 : T (exports (take 40 empty ++ (33 ∷ []) ++ drop 41 empty) empty && figures (take 40 empty ++ (33 ∷ []) ++ drop 41 empty) (0 ∷ 0 ∷ 0 ∷ 0 ∷ 0 ∷ 0 ∷ 0 ∷ 0 ∷ 0 ∷ []))
 unfolding computed
 header-40 = tt
 
-pub header-41 : T (exports (take 41 empty ++ (33 ∷ []) ++ drop 42 empty) empty && figures (take 41 empty ++ (33 ∷ []) ++ drop 42 empty) (0 ∷ 0 ∷ 0 ∷ 0 ∷ 0 ∷ 0 ∷ 0 ∷ 0 ∷ []))
+pub header-41 : T (exports (take 41 empty ++ (33 ∷ []) ++ drop 42 empty) empty && figures (take 41 empty ++ (33 ∷ []) ++ drop 42 empty) (0 ∷ 0 ∷ 0 ∷ 0 ∷ 0 ∷ 0 ∷ 0 ∷ 0 ∷ 0 ∷ []))
 unfolding computed
 header-41 = tt
 
-pub header-42 : T (exports (take 42 empty ++ (33 ∷ []) ++ drop 43 empty) empty && figures (take 42 empty ++ (33 ∷ []) ++ drop 43 empty) (0 ∷ 0 ∷ 0 ∷ 0 ∷ 0 ∷ 0 ∷ 0 ∷ 0 ∷ []))
+pub header-42 : T (exports (take 42 empty ++ (33 ∷ []) ++ drop 43 empty) empty && figures (take 42 empty ++ (33 ∷ []) ++ drop 43 empty) (0 ∷ 0 ∷ 0 ∷ 0 ∷ 0 ∷ 0 ∷ 0 ∷ 0 ∷ 0 ∷ []))
 unfolding computed
 header-42 = tt
 
-pub header-43 : T (exports (take 43 empty ++ (33 ∷ []) ++ drop 44 empty) empty && figures (take 43 empty ++ (33 ∷ []) ++ drop 44 empty) (0 ∷ 0 ∷ 0 ∷ 0 ∷ 0 ∷ 0 ∷ 0 ∷ 0 ∷ []))
+pub header-43 : T (exports (take 43 empty ++ (33 ∷ []) ++ drop 44 empty) empty && figures (take 43 empty ++ (33 ∷ []) ++ drop 44 empty) (0 ∷ 0 ∷ 0 ∷ 0 ∷ 0 ∷ 0 ∷ 0 ∷ 0 ∷ 0 ∷ []))
 unfolding computed
 header-43 = tt
 
-pub header-44 : T (exports (take 44 empty ++ (33 ∷ []) ++ drop 45 empty) empty && figures (take 44 empty ++ (33 ∷ []) ++ drop 45 empty) (0 ∷ 0 ∷ 0 ∷ 0 ∷ 0 ∷ 0 ∷ 0 ∷ 0 ∷ []))
+pub header-44 : T (exports (take 44 empty ++ (33 ∷ []) ++ drop 45 empty) empty && figures (take 44 empty ++ (33 ∷ []) ++ drop 45 empty) (0 ∷ 0 ∷ 0 ∷ 0 ∷ 0 ∷ 0 ∷ 0 ∷ 0 ∷ 0 ∷ []))
 unfolding computed
 header-44 = tt
 
-pub header-45 : T (exports (take 45 empty ++ (33 ∷ []) ++ drop 46 empty) empty && figures (take 45 empty ++ (33 ∷ []) ++ drop 46 empty) (0 ∷ 0 ∷ 0 ∷ 0 ∷ 0 ∷ 0 ∷ 0 ∷ 0 ∷ []))
+pub header-45 : T (exports (take 45 empty ++ (33 ∷ []) ++ drop 46 empty) empty && figures (take 45 empty ++ (33 ∷ []) ++ drop 46 empty) (0 ∷ 0 ∷ 0 ∷ 0 ∷ 0 ∷ 0 ∷ 0 ∷ 0 ∷ 0 ∷ []))
 unfolding computed
 header-45 = tt
 
-pub header-46 : T (exports (take 46 empty ++ (33 ∷ []) ++ drop 47 empty) empty && figures (take 46 empty ++ (33 ∷ []) ++ drop 47 empty) (0 ∷ 0 ∷ 0 ∷ 0 ∷ 0 ∷ 0 ∷ 0 ∷ 0 ∷ []))
+pub header-46 : T (exports (take 46 empty ++ (33 ∷ []) ++ drop 47 empty) empty && figures (take 46 empty ++ (33 ∷ []) ++ drop 47 empty) (0 ∷ 0 ∷ 0 ∷ 0 ∷ 0 ∷ 0 ∷ 0 ∷ 0 ∷ 0 ∷ []))
 unfolding computed
 header-46 = tt
 
-pub header-47 : T (exports (take 47 empty ++ (33 ∷ []) ++ drop 48 empty) empty && figures (take 47 empty ++ (33 ∷ []) ++ drop 48 empty) (0 ∷ 0 ∷ 0 ∷ 0 ∷ 0 ∷ 0 ∷ 0 ∷ 0 ∷ []))
+pub header-47 : T (exports (take 47 empty ++ (33 ∷ []) ++ drop 48 empty) empty && figures (take 47 empty ++ (33 ∷ []) ++ drop 48 empty) (0 ∷ 0 ∷ 0 ∷ 0 ∷ 0 ∷ 0 ∷ 0 ∷ 0 ∷ 0 ∷ []))
 unfolding computed
 header-47 = tt
 
-pub header-48 : T (exports (take 48 empty ++ (33 ∷ []) ++ drop 49 empty) empty && figures (take 48 empty ++ (33 ∷ []) ++ drop 49 empty) (0 ∷ 0 ∷ 0 ∷ 0 ∷ 0 ∷ 0 ∷ 0 ∷ 0 ∷ []))
+pub header-48 : T (exports (take 48 empty ++ (33 ∷ []) ++ drop 49 empty) empty && figures (take 48 empty ++ (33 ∷ []) ++ drop 49 empty) (0 ∷ 0 ∷ 0 ∷ 0 ∷ 0 ∷ 0 ∷ 0 ∷ 0 ∷ 0 ∷ []))
 unfolding computed
 header-48 = tt
 
-pub header-49 : T (exports (take 49 empty ++ (33 ∷ []) ++ drop 50 empty) empty && figures (take 49 empty ++ (33 ∷ []) ++ drop 50 empty) (0 ∷ 0 ∷ 0 ∷ 0 ∷ 0 ∷ 0 ∷ 0 ∷ 0 ∷ []))
+pub header-49 : T (exports (take 49 empty ++ (33 ∷ []) ++ drop 50 empty) empty && figures (take 49 empty ++ (33 ∷ []) ++ drop 50 empty) (0 ∷ 0 ∷ 0 ∷ 0 ∷ 0 ∷ 0 ∷ 0 ∷ 0 ∷ 0 ∷ []))
 unfolding computed
 header-49 = tt

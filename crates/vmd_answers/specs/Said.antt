@@ -7,7 +7,7 @@ use lib.ListN.{length, take, replicate}
 use Rattle.vmd_format.specs.Answer.{Answer, declined, given}
 use Rattle.vmd_format.specs.Read.{lenient}
 use Rattle.vmd_format.specs.Take.{Take, same, read-take}
-use Rattle.vmd_format.specs.Opening.{ik-total, largest-frame}
+use Rattle.vmd_format.specs.Opening.{ik-total, smallest-frame, largest-frame}
 use Rattle.vmd_format.specs.Join.{export-file, join-files}
 use Rattle.vmd_format.specs.Parts.{Parts, build}
 use Rattle.vmd_format.specs.Computed.{declines, bytes-of, counting}
@@ -24,9 +24,9 @@ abbrev figures-of : Answer Take → List ℕ
 figures-of (declined k) = []
 figures-of (given t) =
     length (t .bones) ∷ length (t .morphs) ∷ length (t .cameras) ∷ length (t .lights) ∷ length (t .self-shadows) ∷ length (t .properties)
-    ∷ ik-total (t .properties) ∷ largest-frame t ∷ []
+    ∷ ik-total (t .properties) ∷ smallest-frame t ∷ largest-frame t ∷ []
 
--- the file has these six counts, IK states and largest frame
+-- the file has these six counts, IK states, smallest and largest frame
 abbrev pub figures : List ℕ → List ℕ → Bool
 figures s l = same (figures-of (read-take lenient s)) l
 

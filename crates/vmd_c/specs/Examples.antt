@@ -41,12 +41,12 @@ sections ik = record {
 }
 
 abbrev opening : Opening
-opening = record { scan = sections 7; largest-frame = 8 }
+opening = record { scan = sections 7; smallest-frame = 8; largest-frame = 9 }
 
 pub an-opening :
     (counts-of opening ≡ 1 ∷ 2 ∷ 3 ∷ 4 ∷ 5 ∷ 6 ∷ [])
     × (places-of opening ≡ 54 ∷ 169 ∷ 265 ∷ 391 ∷ 535 ∷ 593 ∷ [])
-    × (totals-of opening ≡ 7 ∷ 8 ∷ [])
+    × (totals-of opening ≡ 7 ∷ 8 ∷ 9 ∷ [])
     × (scan-at (1 ∷ 2 ∷ 3 ∷ 4 ∷ 5 ∷ 6 ∷ []) (54 ∷ 169 ∷ 265 ∷ 391 ∷ 535 ∷ 593 ∷ []) ≡ sections 0)
 unfolding counts-of places-of totals-of extent-at scan-at
 an-opening = (refl, refl, refl, refl)

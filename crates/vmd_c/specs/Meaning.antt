@@ -38,7 +38,7 @@ places-of o =
     ∷ o .scan .properties .place ∷ []
 
 unfoldable pub totals-of : Opening → List ℕ
-totals-of o = o .scan .ik-states ∷ o .largest-frame ∷ []
+totals-of o = o .scan .ik-states ∷ o .smallest-frame ∷ o .largest-frame ∷ []
 
 -- the section of an index
 unfoldable pub extent-at : List ℕ → List ℕ → ℕ → Extent

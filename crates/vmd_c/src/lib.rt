@@ -49,7 +49,7 @@ fn wide(b: u8) -> u32
 
 // ---- opening
 
-// The opening that counts and places say. The calls for records need neither the number of IK states nor the largest frame.
+// The opening that counts and places say. The calls for records need neither the number of IK states nor the frames.
 fn opening_of(counts: &[u32; 6], places: &[u64; 6]) -> VmdOpening
     ensures { λ r. ⌜ opening-is r .scan ≡ scan-at (now (counts .entry)) (now (places .entry)) ⌝ }
 {
@@ -81,6 +81,7 @@ fn opening_of(counts: &[u32; 6], places: &[u64; 6]) -> VmdOpening
             },
             ik_states: 0,
         },
+        min_frame: 0,
         max_frame: 0,
     }
 }
@@ -91,7 +92,7 @@ pub extern "C" fn vmd_parse_animation(
     scratch: &mut [u64],
     counts: &mut [u32; 6],
     places: &mut [u64; 6],
-    totals: &mut [u64; 2],
+    totals: &mut [u64; 3],
 ) -> u32
     ensures { λ r. ⌜ (let answer = open-file lenient (now (file .entry)) (length (now (scratch .entry))) in
         (r ≡ status answer)
@@ -120,7 +121,7 @@ pub extern "C" fn vmd_parse_animation(
                 s.self_shadows.place as u64,
                 s.properties.place as u64,
             ];
-            *totals = [s.ik_states, o.max_frame as u64];
+            *totals = [s.ik_states, o.min_frame as u64, o.max_frame as u64];
             0
         }
     }

@@ -4,3 +4,4 @@ pub mod Together
 pub mod Demand3
 pub mod Refusals
 pub mod Examples
+pub mod Frames

@@ -1,6 +1,6 @@
 -- Laws of answers. Assumes nothing.
 use Prim.Native.Nat.{ℕ, _≤_, _<_}
-use mathlib.Core.Path.{_≡_, refl}
+use mathlib.Core.Path.{_≡_, refl, sym, _∙_}
 use mathlib.Core.Bool.{Bool, true, false}
 use mathlib.Core.List.{List}
 use native.Mathlib.Omega.{arith}
@@ -49,3 +49,13 @@ not-refused limit n (given s) e = go (leb (length s) limit) refl e
     go : (b : Bool) → leb (length s) limit ≡ b → map-answer length (unless b output-too-short (given s)) ≡ given n → Written limit (given s)
     go true q e = record { bytes = s; is = refl; fits = leb-true _ _ q }
     go false q e = let z : _≡_ {A = ℕ} 0 1 = cc in absurd (omega arith)
+
+-- what it left in the output is what it was to write
+pub left-is : (file out : List ℕ) (x : Answer (List ℕ))
+    → file-left (map-answer length (fitted (length out) x)) (left out (fitted (length out) x)) ≡ given file → x ≡ given file
+unfolding file-left map-answer
+left-is file out x e = go (map-answer length (fitted (length out) x)) refl e
+  where
+    go : (a : Answer ℕ) → map-answer length (fitted (length out) x) ≡ a → file-left a (left out (fitted (length out) x)) ≡ given file → x ≡ given file
+    go (declined k) p q = let z : _≡_ {A = ℕ} 0 1 = cc in absurd (omega arith)
+    go (given n) p q = let w = not-refused (length out) n x p in w .is ∙ sym (left-whole (w .bytes) out x (w .is) (w .fits)) ∙ e

@@ -16,12 +16,12 @@ use Rattle.vmd_format.specs.Answer.{Answer, declined, given, and-then, m
 use Rattle.vmd_format.specs.Records.{IkState, Property, bone, morph, camera, light, self-shadow, ik-state, property-head}
 use Rattle.vmd_format.specs.Read.{Step, refused, got, table, refuse, Manner}
 use Rattle.vmd_format.specs.Take.{Take, File, take-of, read-file, answer, read-take}
-use Rattle.vmd_format.specs.Opening.{ik-total, largest-frame, positions, Extent, Scan, Opening, open-file, scratch-if, scratch-after}
+use Rattle.vmd_format.specs.Opening.{ik-total, smallest, largest, smallest-frame, largest-frame, positions, Extent, Scan, Opening, open-file, scratch-if, scratch-after}
 use Rattle.vmd_format.specs.Fetch.{record-place, fetch, or-empty, model-of, PropertyHead, property-place, property-at, fetch-property, ik-extent, fetch-ik-state}
-use Rattle.vmd_format.specs.Places.{Span, span, Walk, walk-on, walk, next-frame, frame-places, scan-largest, open-scan, scan-file, scan-scratch}
+use Rattle.vmd_format.specs.Places.{Span, span, Walk, walk-on, walk, next-frame, frame-places, opening-at, open-scan, scan-file, scan-scratch}
 use Rattle.vmd_format.specs.PlacesLaws.{Holds, table-length, table-at, section-in, property-in, frames-in, Frame, frame-span}
 use Rattle.vmd_format.specs.ScanLaws.{frames-length, file-in, Inside, Agrees, Matches, file-agrees}
-use Rattle.vmd_format.specs.OpeningLaws.{file-largest, positions-places, open-by-places, scratch-by-places, agreed-total}
+use Rattle.vmd_format.specs.OpeningLaws.{file-frames, positions-places, open-by-places, scratch-by-places, agreed-total}
 
 -- ---- records of one size
 
@@ -166,7 +166,7 @@ module _ (p : Extent) (s scratch : List ℕ) (w : Walk) (e : walk s (p .count) (
 
 -- ---- the file's own opening and scratch
 
--- "six counts, the number of IK states, largest frame": an opening's figures are those of a take
+-- "six counts, the number of IK states, largest frame", and 02 c's smallest: an opening's figures are those of a take
 pub record Figures (o : Opening) (t : Take) : Type 0 where
   pub bones : o .scan .bones .count ≡ length (t .bones)
   pub morphs : o .scan .morphs .count ≡ length (t .morphs)
@@ -175,6 +175,7 @@ pub record Figures (o : Opening) (t : Take) : Type 0 where
   pub self-shadows : o .scan .self-shadows .count ≡ length (t .self-shadows)
   pub properties : o .scan .properties .count ≡ length (t .properties)
   pub ik-states : o .scan .ik-states ≡ ik-total (t .properties)
+  pub smallest : o .smallest-frame ≡ smallest-frame t
   pub largest : o .largest-frame ≡ largest-frame t
 
 -- what an opening, and the scratch after it, say of a take
@@ -191,10 +192,10 @@ pub record Own (s : List ℕ) (o : Opening) (scratch : List ℕ) (t : Take) : Ty
 
 own-file : (s scratch model : List ℕ) (x : Scan) → Inside s x → model-of s ≡ model
     → x .ik-states ≡ ik-total (frames-in s (x .properties .count) (x .properties .place)) → x .properties .count ≤ length scratch
-    → Own s (record { scan = x; largest-frame = scan-largest s x })
+    → Own s (opening-at s x)
     (frame-places s (x .properties .count) (x .properties .place) ++ drop (length (frame-places s (x .properties .count) (x .properties .place))) scratch)
     (take-of (file-in model s x))
-unfolding take-of file-in section-in bone morph camera light self-shadow number byte flag inverted name raw _⊗_ as-record
+unfolding take-of file-in section-in opening-at smallest-frame largest-frame bone morph camera light self-shadow number byte flag inverted name raw _⊗_ as-record
 own-file s scratch model x k e total room =
     let n = x .properties .count in
     let q = frame-places s n (x .properties .place) in
@@ -218,7 +219,8 @@ own-file s scratch model x k e total room =
         self-shadows = sym (table-length self-shadow (x .self-shadows .count) (drop (x .self-shadows .place) s));
         properties = sym (frames-length s n (x .properties .place));
         ik-states = total;
-        largest = sym (file-largest model s x);
+        smallest = ap smallest (sym (file-frames model s x));
+        largest = ap largest (sym (file-frames model s x));
       };
       places =
           rw (frames-length s n (x .properties .place), take-at q (drop (length q) scratch) n l) (sym (positions-places s n (x .properties .place)));
@@ -235,14 +237,14 @@ own-records m s scratch o t r h =
   where
     agreed : (f : File) (x : Scan) → (f .model ≡ model-of s) × Agrees s f x → (b : Bool) → leb (x .properties .count) (length scratch) ≡ b
         → given (take-of f) ≡ given t
-        → unless b scratch-too-short (given (record { scan = x; largest-frame = scan-largest s x })) ≡ given o
+        → unless b scratch-too-short (given (opening-at s x)) ≡ given o
         → Own s o (scratch-if b (frame-places s (x .properties .count) (x .properties .place)) scratch) t
     agreed f x a true e p q =
         let places = frame-places s (x .properties .count) (x .properties .place) in
         let u : take-of f ≡ t = cc in
-        let v : record { scan = x; largest-frame = scan-largest s x } ≡ o = cc in
+        let v : opening-at s x ≡ o = cc in
         rw (← v, ← u)
-        (subst (λ g. Own s (record { scan = x; largest-frame = scan-largest s x }) (places ++ drop (length places) scratch) (take-of g)) (sym (a .1 .file))
+        (subst (λ g. Own s (opening-at s x) (places ++ drop (length places) scratch) (take-of g)) (sym (a .1 .file))
         (own-file s scratch (f .model) x (a .1 .inside) (sym (a .0)) (agreed-total (a .1)) (leb-true _ _ e)))
     agreed f x a false e p q = let z : _≡_ {A = ℕ} 0 1 = cc in absurd (omega arith)
 

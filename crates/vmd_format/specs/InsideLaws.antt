@@ -12,7 +12,7 @@ use Rattle.vmd_format.specs.Read.{Step, refused, got, Manner}
 use Rattle.vmd_format.specs.Take.{File, read-file}
 use Rattle.vmd_format.specs.Opening.{Scan, Opening, open-file}
 use Rattle.vmd_format.specs.Fetch.{model-of}
-use Rattle.vmd_format.specs.Places.{Reaches, scan-file, scan-largest, open-scan}
+use Rattle.vmd_format.specs.Places.{Reaches, scan-file, opening-at, open-scan}
 use Rattle.vmd_format.specs.WalkLaws.{Passed, walk-passed}
 use Rattle.vmd_format.specs.ScanLaws.{Inside, Matches, file-agrees}
 use Rattle.vmd_format.specs.OpeningLaws.{open-by-places}
@@ -47,11 +47,11 @@ module _ (s : List ℕ) (x : Scan) (h : Inside s x) where
 -- ---- an opening
 
 pub opened-scan : (m : Manner) (s : List ℕ) (places : ℕ) (o : Opening) → open-file m s places ≡ given o → scan-file m s ≡ given (o .scan)
-unfolding and-then open-scan unless
+unfolding and-then open-scan opening-at unless
 opened-scan m s places o e = go (scan-file m s) (sym (open-by-places m s places) ∙ e)
   where
-    one : (x : Scan) (b : Bool) → unless b scratch-too-short (given (record { scan = x; largest-frame = scan-largest s x })) ≡ given o → given x ≡ given (o .scan)
-    one x true q = let z : record { scan = x; largest-frame = scan-largest s x } ≡ o = cc in ap (λ o. given (o .scan)) z
+    one : (x : Scan) (b : Bool) → unless b scratch-too-short (given (opening-at s x)) ≡ given o → given x ≡ given (o .scan)
+    one x true q = let z : opening-at s x ≡ o = cc in ap (λ o. given (o .scan)) z
     one x false q = let z : _≡_ {A = ℕ} 0 1 = cc in absurd (omega arith)
 
     go : (y : Answer Scan) → and-then y (open-scan s places) ≡ given o → y ≡ given (o .scan)

@@ -10,7 +10,7 @@ use Rattle.vmd_format.specs.Answer.{Answer, declined, given, and-then, f
 use Rattle.vmd_format.specs.Records.{Property}
 use Rattle.vmd_format.specs.Read.{lenient}
 use Rattle.vmd_format.specs.Take.{Take, read-take}
-use Rattle.vmd_format.specs.Opening.{open-file}
+use Rattle.vmd_format.specs.Opening.{Opening, open-file, smaller-of}
 use Rattle.vmd_format.specs.Join.{export-file, join-takes, join-files}
 use Rattle.vmd_format.specs.Computed.{computed, declines, bytes-of, text, start, fours, u0, u1, bone-bytes, bone-said, morph-bytes, morph-said, camera-bytes, camera-said, light-bytes, light-said, shadow-bytes, shadow-said, ik-bytes, ik-said}
 
@@ -65,6 +65,37 @@ second-name-taken = refl
 pub join-length : T (eqb (length (bytes-of (join-files lenient first second))) 598)
 unfolding computed
 join-length = tt
+
+-- the smallest and the largest frame of a join, none where it is refused
+abbrev frames-of : Answer Opening → List ℕ
+frames-of (declined k) = []
+frames-of (given o) = o .smallest-frame ∷ o .largest-frame ∷ []
+
+abbrev frames-after : List ℕ → List ℕ → List ℕ
+frames-after a b = frames-of (and-then (join-files lenient a b) λ s. open-file lenient s 2)
+
+-- a take without records does not count, on either side
+pub frames-joined :
+    (frames-after first second ≡ 1 ∷ 2 ∷ [])
+    × (frames-after second first ≡ 1 ∷ 2 ∷ [])
+    × (frames-after second (start ++ u0) ≡ 2 ∷ 2 ∷ [])
+    × (frames-after (start ++ u0) second ≡ 2 ∷ 2 ∷ [])
+    × (frames-after (start ++ u0) (start ++ u0) ≡ 0 ∷ 0 ∷ [])
+unfolding computed
+frames-joined = (refl, refl, refl, refl, refl)
+
+-- the rule itself: takes of so many records, then their smallest frames; that of a take without records does not count,
+-- whatever it is
+pub smaller-taken : T (
+    eqb (smaller-of 3 4 5 6) 5
+    && eqb (smaller-of 3 4 6 5) 5
+    && eqb (smaller-of 0 4 5 6) 6
+    && eqb (smaller-of 0 4 6 5) 5
+    && eqb (smaller-of 3 0 5 6) 5
+    && eqb (smaller-of 3 0 6 5) 6
+    && eqb (smaller-of 0 0 0 0) 0)
+unfolding computed
+smaller-taken = tt
 
 -- files that are refused with 1 and with 2
 abbrev short : List ℕ
@@ -122,6 +153,7 @@ pub oversized-opened : open-file lenient oversized 0 ≡ given (record {
     properties = record { count = 0; place = 94 };
     ik-states = 0;
   };
+  smallest-frame = 0;
   largest-frame = 0;
 })
 unfolding computed

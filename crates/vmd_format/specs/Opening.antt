@@ -1,7 +1,7 @@
--- What opening a file gives: document 01, "Opening". Definitions only.
-use Prim.Native.Nat.{ℕ, _+_, _*_, _-_, max}
+-- What opening a file gives: document 01, "Opening", and 02 c. Definitions only.
+use Prim.Native.Nat.{ℕ, zero, suc, _+_, _*_, _-_, min, max}
 use mathlib.Core.Bool.{Bool, true, false}
-use mathlib.Core.List.{List, [], _∷_, _++_}
+use mathlib.Core.List.{List, [], _∷_, _++_, map}
 use lib.ListN.{length, drop}
 use lib.Dec.{leb}
 use Rattle.vmd_format.specs.Refusal.{scratch-too-short}
@@ -15,20 +15,37 @@ unfoldable pub ik-total : List Property → ℕ
 ik-total [] = 0
 ik-total (p ∷ l) = length (p .ik-states) + ik-total l
 
--- the largest of the frames of a list of records, 0 with none
-unfoldable pub largest : {A : Type 0} → (A → ℕ) → List A → ℕ
-largest frame [] = 0
-largest frame (a ∷ l) = max (frame a) (largest frame l)
+-- the frames of a take's records, section after section
+unfoldable pub take-frames : Take → List ℕ
+take-frames t =
+    map (λ b. b .frame) (t .bones)
+    ++ (map (λ m. m .frame) (t .morphs)
+    ++ (map (λ c. c .frame) (t .cameras)
+    ++ (map (λ l. l .frame) (t .lights)
+    ++ (map (λ s. s .frame) (t .self-shadows)
+    ++ map (λ p. p .frame) (t .properties)))))
+
+-- the smallest of a number and of those of a list
+unfoldable pub least : ℕ → List ℕ → ℕ
+least n [] = n
+least n (k ∷ l) = least (min n k) l
+
+-- the smallest and the largest of some numbers, 0 with none
+unfoldable pub smallest : List ℕ → ℕ
+smallest [] = 0
+smallest (n ∷ l) = least n l
+
+unfoldable pub largest : List ℕ → ℕ
+largest [] = 0
+largest (n ∷ l) = max n (largest l)
+
+-- 02 c: "the smallest frame over all six sections, 0 with no records"
+unfoldable pub smallest-frame : Take → ℕ
+smallest-frame t = smallest (take-frames t)
 
 -- "The largest frame is over all six sections, 0 with no records."
 unfoldable pub largest-frame : Take → ℕ
-largest-frame t =
-    max (largest (λ b. b .frame) (t .bones))
-    (max (largest (λ m. m .frame) (t .morphs))
-    (max (largest (λ c. c .frame) (t .cameras))
-    (max (largest (λ l. l .frame) (t .lights))
-    (max (largest (λ s. s .frame) (t .self-shadows))
-    (largest (λ p. p .frame) (t .properties))))))
+largest-frame t = largest (take-frames t)
 
 -- "the byte position of each property frame": a frame is 9 bytes and 21 for each of its IK states
 unfoldable pub positions : ℕ → List Property → List ℕ
@@ -50,9 +67,14 @@ pub record Scan : Type 0 where
   pub properties : Extent
   pub ik-states : ℕ
 
+-- how many records the six sections have
+unfoldable pub record-count : Scan → ℕ
+record-count x = x .bones .count + x .morphs .count + x .cameras .count + x .lights .count + x .self-shadows .count + x .properties .count
+
 -- an opening (document 01's term)
 pub record Opening : Type 0 where
   pub scan : Scan
+  pub smallest-frame : ℕ
   pub largest-frame : ℕ
 
 -- "A section's place is just after its count, or the file's length where the count is missing or the section was emptied."
@@ -71,7 +93,17 @@ scan-of s f = record {
 }
 
 unfoldable pub opening-of : List ℕ → File → Opening
-opening-of s f = record { scan = scan-of s f; largest-frame = largest-frame (take-of f) }
+opening-of s f = record { scan = scan-of s f; smallest-frame = smallest-frame (take-of f); largest-frame = largest-frame (take-of f) }
+
+-- 02 c: "Joining gives the smaller of two, a take without records not counting." Of two takes with so many records, and these
+-- smallest frames.
+unfoldable pub smaller-of : ℕ → ℕ → ℕ → ℕ → ℕ
+smaller-of zero m j k = k
+smaller-of (suc n) zero j k = j
+smaller-of (suc n) (suc m) j k = min j k
+
+unfoldable pub joined-smallest : Opening → Opening → ℕ
+joined-smallest a b = smaller-of (record-count (a .scan)) (record-count (b .scan)) (a .smallest-frame) (b .smallest-frame)
 
 -- "scratch has fewer places than property frames: 3"; "Opening: 1 and 2 as met, then 3."
 unfoldable pub opened : List ℕ → ℕ → Step File → Answer Opening

@@ -1,10 +1,12 @@
--- Opening by places is opening: counts, places, IK total, largest frame, and the scratch.
-use Prim.Native.Nat.{ℕ, zero, suc, _+_, _*_, _-_, _/_, _≤_, max}
+-- Opening by places is opening: counts, places, IK total, smallest and largest frame, and the scratch.
+use Prim.Native.Nat.{ℕ, zero, suc, _+_, _*_, _-_, _/_, _≤_}
 use mathlib.Core.Path.{_≡_, refl, ap, ap₂, sym, _∙_, subst}
 use mathlib.Core.Logic.{_↔_}
-use mathlib.Core.List.{List, _∷_}
+use mathlib.Core.List.{List, _∷_, _++_, map}
+use native.Mathlib.Nat.{add-zero}
 use native.Mathlib.Omega.{arith}
 use lib.ListN.{length, drop}
+use lib.Seq.{drop-drop}
 use borrow.Author.Tests.{le-leb}
 use Rattle.vmd_format.specs.Bytes.{u32}
 use Rattle.vmd_format.specs.Layout.{Layout, number, byte, inverted, name, raw, _⊗_, as-record}
@@ -12,33 +14,36 @@ use Rattle.vmd_format.specs.Answer.{Answer, declined, given, and-then, u
 use Rattle.vmd_format.specs.Records.{bone, morph, camera, light, self-shadow, ik-state}
 use Rattle.vmd_format.specs.Read.{Step, refused, got, table, Manner}
 use Rattle.vmd_format.specs.Take.{Take, File, take-of, read-file, answer, read-take}
-use Rattle.vmd_format.specs.Opening.{ik-total, largest, largest-frame, positions, Scan, Opening, extent-of, scan-of, opening-of, opened, open-file, scratch-of, scratch-after}
+use Rattle.vmd_format.specs.Opening.{ik-total, take-frames, smallest-frame, largest-frame, positions, Scan, Opening, extent-of, scan-of, opening-of, opened, open-file, scratch-of, scratch-after}
 use Rattle.vmd_format.specs.Fetch.{model-of}
-use Rattle.vmd_format.specs.Places.{scan-file, largest-of, next-frame, largest-frame-of, frame-places, extent-largest, scan-largest, open-scan, scan-scratch}
+use Rattle.vmd_format.specs.Places.{scan-file, next-frame, frame-places, frames-from, scan-frames, opening-at, open-scan, scan-scratch}
 use Rattle.vmd_format.specs.PlacesLaws.{table-length, section-in, property-in, frames-in}
 use Rattle.vmd_format.specs.ScanLaws.{file-in, Agrees, Matches, file-agrees}
 
--- the largest frame of back-to-back records
-largest-table : {A : Type 0} (K : Layout A) (frame : A → ℕ) (offset : ℕ) → ((s : List ℕ) → frame (K .decode s) ≡ u32 (drop offset s))
-    → (n : ℕ) (s : List ℕ) → largest frame (table K n s) ≡ largest-of offset (K .size) n s
-unfolding largest table largest-of
-largest-table K frame offset h zero s = refl
-largest-table K frame offset h (suc n) s = ap₂ max (h s) (largest-table K frame offset h n (drop (K .size) s))
+-- the frames of back-to-back records
+frames-table : {A : Type 0} (K : Layout A) (frame : A → ℕ) (offset : ℕ) → ((s : List ℕ) → frame (K .decode s) ≡ u32 (drop offset s))
+    → (s : List ℕ) (n at : ℕ) → map frame (table K n (drop at s)) ≡ frames-from (λ at. at + K .size) offset s n at
+unfolding table frames-from
+frames-table K frame offset h s zero at = refl
+frames-table K frame offset h s (suc n) at =
+    rw (h (drop at s), drop-drop offset at s, drop-drop (K .size) at s)
+    (ap {B = List ℕ} (λ l. u32 (drop (at + offset) s) ∷ l) (frames-table K frame offset h s n (at + K .size)))
 
-largest-frames : (s : List ℕ) (n at : ℕ) → largest (λ p. p .frame) (frames-in s n at) ≡ largest-frame-of s n at
-unfolding largest frames-in property-in largest-frame-of
-largest-frames s zero at = refl
-largest-frames s (suc n) at = ap (max (u32 (drop at s))) (largest-frames s n (next-frame s at))
+frames-properties : (s : List ℕ) (n at : ℕ) → map (λ p. p .frame) (frames-in s n at) ≡ frames-from (next-frame s) 0 s n at
+unfolding frames-in property-in frames-from
+frames-properties s zero at = refl
+frames-properties s (suc n) at =
+    rw (add-zero at) (ap {B = List ℕ} (λ l. u32 (drop at s) ∷ l) (frames-properties s n (next-frame s at)))
 
-pub file-largest : (model s : List ℕ) (x : Scan) → largest-frame (take-of (file-in model s x)) ≡ scan-largest s x
-unfolding largest-frame take-of file-in section-in scan-largest extent-largest bone morph camera light self-shadow as-record _⊗_ name number raw byte inverted
-file-largest model s x =
-    ap₂ max (largest-table bone (λ b. b .frame) 15 (λ t. refl) (x .bones .count) (drop (x .bones .place) s))
-    (ap₂ max (largest-table morph (λ m. m .frame) 15 (λ t. refl) (x .morphs .count) (drop (x .morphs .place) s))
-    (ap₂ max (largest-table camera (λ c. c .frame) 0 (λ t. refl) (x .cameras .count) (drop (x .cameras .place) s))
-    (ap₂ max (largest-table light (λ l. l .frame) 0 (λ t. refl) (x .lights .count) (drop (x .lights .place) s))
-    (ap₂ max (largest-table self-shadow (λ d. d .frame) 0 (λ t. refl) (x .self-shadows .count) (drop (x .self-shadows .place) s))
-    (largest-frames s (x .properties .count) (x .properties .place))))))
+pub file-frames : (model s : List ℕ) (x : Scan) → take-frames (take-of (file-in model s x)) ≡ scan-frames s x
+unfolding take-frames take-of file-in section-in scan-frames bone morph camera light self-shadow as-record _⊗_ name number raw byte inverted
+file-frames model s x =
+    ap₂ _++_ (frames-table bone (λ b. b .frame) 15 (λ t. refl) s (x .bones .count) (x .bones .place))
+    (ap₂ _++_ (frames-table morph (λ m. m .frame) 15 (λ t. refl) s (x .morphs .count) (x .morphs .place))
+    (ap₂ _++_ (frames-table camera (λ c. c .frame) 0 (λ t. refl) s (x .cameras .count) (x .cameras .place))
+    (ap₂ _++_ (frames-table light (λ l. l .frame) 0 (λ t. refl) s (x .lights .count) (x .lights .place))
+    (ap₂ _++_ (frames-table self-shadow (λ d. d .frame) 0 (λ t. refl) s (x .self-shadows .count) (x .self-shadows .place))
+    (frames-properties s (x .properties .count) (x .properties .place))))))
 
 -- the positions of the frames of these places
 pub positions-places : (s : List ℕ) (n at : ℕ) → positions at (frames-in s n at) ≡ frame-places s n at
@@ -66,19 +71,19 @@ module _ {s : List ℕ} {f : File} {x : Scan} (a : Agrees s f x) where
   unfolding scan-of
   agreed-total = sym (ap (λ y. y .ik-states) (a .scan)) ∙ ap ik-total agreed-frames
 
-  pub agreed-largest : largest-frame (take-of f) ≡ scan-largest s x
-  agreed-largest = ap (λ g. largest-frame (take-of g)) (a .file) ∙ file-largest (f .model) s x
+  pub agreed-numbers : take-frames (take-of f) ≡ scan-frames s x
+  agreed-numbers = ap (λ g. take-frames (take-of g)) (a .file) ∙ file-frames (f .model) s x
 
 -- what opening answers, by places
 pub open-by-places : (m : Manner) (s : List ℕ) (places : ℕ) → open-file m s places ≡ and-then (scan-file m s) (open-scan s places)
-unfolding open-file opened and-then open-scan opening-of
+unfolding open-file opened and-then open-scan opening-of opening-at smallest-frame largest-frame
 open-by-places m s places = go (read-file m s) (scan-file m s) (file-agrees m s)
   where
     go : (x : Step File) (y : Answer Scan) → Matches s (model-of s) x y → opened s places x ≡ and-then y (open-scan s places)
     go (refused k) (declined j) a = ap declined a
     go (refused k) (given x) a = absurd a
     go (got f r) (declined j) a = absurd a
-    go (got f r) (given x) a = rw (agreed-count (a .1), agreed-largest (a .1), a .1 .scan)
+    go (got f r) (given x) a = rw (agreed-count (a .1), agreed-numbers (a .1), a .1 .scan)
 
 -- the scratch at exit, by places
 pub scratch-by-places : (m : Manner) (s scratch : List ℕ) → scratch-after m s scratch ≡ scan-scratch s scratch (scan-file m s)

@@ -1,8 +1,8 @@
 -- Reading a file by places, as code goes: a section's count, the place of its records and the place after them.
 -- PlacesLaws shows that this is the reading of Take and Opening; nothing here has to be believed.
-use Prim.Native.Nat.{ℕ, zero, suc, _+_, _*_, _-_, _≤_, max}
+use Prim.Native.Nat.{ℕ, zero, suc, _+_, _*_, _-_, _≤_}
 use mathlib.Core.Bool.{Bool, true, false}
-use mathlib.Core.List.{List, [], _∷_}
+use mathlib.Core.List.{List, [], _∷_, _++_}
 use lib.ListN.{length, drop}
 use lib.Dec.{leb}
 use Rattle.vmd_format.specs.Bytes.{u32}
@@ -10,7 +10,7 @@ use Rattle.vmd_format.specs.Refusal.{file-ends-early, scratch-too-short}
 use Rattle.vmd_format.specs.Answer.{Answer, declined, given, and-then, unless}
 use Rattle.vmd_format.specs.Read.{Step, refused, got, Oversized, refuse, emptied, BytesOver, ignored, turned-down, Manner}
 use Rattle.vmd_format.specs.Take.{header}
-use Rattle.vmd_format.specs.Opening.{Extent, Scan, Opening, scratch-if}
+use Rattle.vmd_format.specs.Opening.{smallest, largest, Extent, Scan, Opening, scratch-if}
 
 -- where the sections begin
 unfoldable pub place-after : List ℕ → Step (List ℕ) → Answer ℕ
@@ -114,12 +114,7 @@ scan-sections m s at =
 unfoldable pub scan-file : Manner → List ℕ → Answer Scan
 scan-file m s = and-then (header-place s) (scan-sections m s)
 
--- ---- the largest frame and the frames' places
-
--- the largest of n records' frames, a number so many bytes into each
-unfoldable pub largest-of : ℕ → ℕ → ℕ → List ℕ → ℕ
-largest-of offset size zero s = 0
-largest-of offset size (suc n) s = max (u32 (drop offset s)) (largest-of offset size n (drop size s))
+-- ---- the frames, and the property frames' places
 
 unfoldable pub next-frame : List ℕ → ℕ → ℕ
 next-frame s at = at + 9 + u32 (drop (at + 5) s) * 21
@@ -129,30 +124,38 @@ unfoldable pub Reaches : List ℕ → ℕ → ℕ → Type 0
 Reaches s zero at = Unit {0}
 Reaches s (suc n) at = (next-frame s at ≤ length s) × Reaches s n (next-frame s at)
 
-unfoldable pub largest-frame-of : List ℕ → ℕ → ℕ → ℕ
-largest-frame-of s zero at = 0
-largest-frame-of s (suc n) at = max (u32 (drop at s)) (largest-frame-of s n (next-frame s at))
-
 unfoldable pub frame-places : List ℕ → ℕ → ℕ → List ℕ
 frame-places s zero at = []
 frame-places s (suc n) at = at ∷ frame-places s n (next-frame s at)
 
--- the largest frame of a section by its extent, and of a whole file
-unfoldable pub extent-largest : ℕ → ℕ → List ℕ → Extent → ℕ
-extent-largest offset size s p = largest-of offset size (p .count) (drop (p .place) s)
+-- the frames of n records from a place on, each a number so many bytes into its record; `next` leads from a record's place to
+-- the next
+unfoldable pub frames-from : (ℕ → ℕ) → ℕ → List ℕ → ℕ → ℕ → List ℕ
+frames-from next offset s zero at = []
+frames-from next offset s (suc n) at = u32 (drop (at + offset) s) ∷ frames-from next offset s n (next at)
 
-unfoldable pub scan-largest : List ℕ → Scan → ℕ
-scan-largest s x =
-    max (extent-largest 15 111 s (x .bones))
-    (max (extent-largest 15 23 s (x .morphs))
-    (max (extent-largest 0 61 s (x .cameras))
-    (max (extent-largest 0 28 s (x .lights))
-    (max (extent-largest 0 9 s (x .self-shadows))
-    (largest-frame-of s (x .properties .count) (x .properties .place))))))
+-- the frames of a section of records of one size, and of a whole file
+abbrev pub extent-frames : ℕ → ℕ → List ℕ → Extent → List ℕ
+extent-frames offset size s p = frames-from (λ at. at + size) offset s (p .count) (p .place)
+
+abbrev pub property-frames : List ℕ → Extent → List ℕ
+property-frames s p = frames-from (next-frame s) 0 s (p .count) (p .place)
+
+unfoldable pub scan-frames : List ℕ → Scan → List ℕ
+scan-frames s x =
+    extent-frames 15 111 s (x .bones)
+    ++ (extent-frames 15 23 s (x .morphs)
+    ++ (extent-frames 0 61 s (x .cameras)
+    ++ (extent-frames 0 28 s (x .lights)
+    ++ (extent-frames 0 9 s (x .self-shadows)
+    ++ property-frames s (x .properties)))))
 
 -- opening, and the scratch after it
+unfoldable pub opening-at : List ℕ → Scan → Opening
+opening-at s x = record { scan = x; smallest-frame = smallest (scan-frames s x); largest-frame = largest (scan-frames s x) }
+
 unfoldable pub open-scan : List ℕ → ℕ → Scan → Answer Opening
-open-scan s places x = unless (leb (x .properties .count) places) scratch-too-short (given (record { scan = x; largest-frame = scan-largest s x }))
+open-scan s places x = unless (leb (x .properties .count) places) scratch-too-short (given (opening-at s x))
 
 unfoldable pub scan-scratch : List ℕ → List ℕ → Answer Scan → List ℕ
 scan-scratch s scratch (declined k) = scratch

@@ -73,6 +73,17 @@ module _ (m : Manner) where
   join-reads-back {a} {b} {t} {u} h k f =
       rw (join-is a b (h .reads) (k .reads) f) (take-back m (join t u) (join-well-formed f (well-formed h) (well-formed k)))
 
+  -- what is written as a join reads as the join
+  pub join-given : {a b j : List ℕ} {t u : Take} → Accepted m a t → Accepted m b u → join-files m a b ≡ given j → read-take m j ≡ given (join t u)
+  unfolding join-files and-then join-takes unless
+  join-given {a} {b} {j} {t} {u} h k e = go (fit-together t u) refl (rw (h .reads, k .reads) at e)
+    where
+      go : (x : Bool) → fit-together t u ≡ x → unless x count-too-large (given (write-take (join t u))) ≡ given j → read-take m j ≡ given (join t u)
+      go true f w =
+          let q : write-take (join t u) ≡ j = cc in
+          rw (← q) (take-back m (join t u) (join-well-formed (test-fit t u f) (well-formed h) (well-formed k)))
+      go false f w = let z : _≡_ {A = ℕ} 0 1 = cc in absurd (omega arith)
+
   -- "joining any of them, on either side, with an accepted take of no records and no model name gives the other's export"
   pub join-unit : {e s : List ℕ} {t : Take} → Accepted m e empty → Accepted m s t
       → (join-files m e s ≡ export-file m s) × (join-files m s e ≡ export-file m s)

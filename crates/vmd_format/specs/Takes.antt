@@ -1,5 +1,5 @@
--- The takes to try of document 01.
-use Prim.Native.Nat.{ℕ}
+-- The takes to try of document 01, and those of 02 c.
+use Prim.Native.Nat.{ℕ, _*_}
 use mathlib.Core.Bool.{Bool, false, _&&_, not}
 use mathlib.Core.List.{List, [], _∷_, _++_}
 use lib.ListN.{length, take, drop, replicate}
@@ -7,9 +7,10 @@ use lib.Dec.{eqb, T}
 use Rattle.vmd_format.specs.Answer.{Answer, declined, given}
 use Rattle.vmd_format.specs.Read.{lenient}
 use Rattle.vmd_format.specs.Take.{Take, read-take, same}
+use Rattle.vmd_format.specs.Opening.{record-count, Opening, joined-smallest, open-file}
 use Rattle.vmd_format.specs.Join.{export-file, join-files}
 use Rattle.vmd_format.specs.Names.{good}
-use Rattle.vmd_format.specs.Computed.{computed, declines, bytes-of, start, u0, u1, bone-bytes}
+use Rattle.vmd_format.specs.Computed.{computed, declines, bytes-of, start, fours, u0, u1, bone-bytes, morph-bytes, camera-bytes, light-bytes, shadow-bytes}
 
 -- the file is refused with this number
 abbrev refuses : List ℕ → ℕ → Bool
@@ -87,3 +88,101 @@ pub name-edges : T (
     && not (good (0x41 ∷ 0x83 ∷ 0x41 ∷ 0x83 ∷ [])))
 unfolding computed
 name-edges = tt
+
+-- ---- the smallest and the largest frame
+
+-- the file opens with these two
+abbrev has-frames : Answer Opening → ℕ → ℕ → Bool
+has-frames (declined k) a b = false
+has-frames (given o) a b = eqb (o .smallest-frame) a && eqb (o .largest-frame) b
+
+abbrev opens-with : List ℕ → ℕ → ℕ → Bool
+opens-with s a b = has-frames (open-file lenient s 3) a b
+
+-- records one after another: a name field, the frame's four bytes, and zeros
+abbrev records : ℕ → ℕ → List (List ℕ) → List ℕ
+records name after [] = []
+records name after (f ∷ l) = replicate name 0 ++ f ++ replicate after 0 ++ records name after l
+
+-- a file of such records, in the section after so many empty ones
+abbrev one-section : ℕ → ℕ → ℕ → List (List ℕ) → List ℕ
+one-section empty name after l = start ++ replicate (4 * empty) 0 ++ fours (length l ∷ []) ++ records name after l
+
+-- what holds of such a file, whichever section it is
+abbrev in-each : (List ℕ → Bool) → List (List ℕ) → Bool
+in-each holds l =
+    holds (one-section 0 15 92 l) && holds (one-section 1 15 4 l) && holds (one-section 2 0 57 l)
+    && holds (one-section 3 0 24 l) && holds (one-section 4 0 5 l) && holds (one-section 5 0 5 l)
+
+-- small frames
+abbrev frames : List ℕ → List (List ℕ)
+frames [] = []
+frames (n ∷ l) = fours (n ∷ []) ∷ frames l
+
+-- Only one record: it is both. None is told by the counts: one record at the largest number is not none, and neither is one
+-- at 0.
+pub only-record : T (
+    opens-with (start ++ u0) 0 0
+    && in-each (λ s. opens-with s 7 7) (frames (7 ∷ []))
+    && in-each (λ s. opens-with s 0 0) (frames (0 ∷ []))
+    && in-each (λ s. opens-with s 4294967295 4294967295) ((255 ∷ 255 ∷ 255 ∷ 255 ∷ []) ∷ []))
+unfolding computed
+only-record = tt
+
+-- whichever record of a section it is
+pub any-record : T (
+    in-each (λ s. opens-with s 2 9) (frames (2 ∷ 9 ∷ 5 ∷ []))
+    && in-each (λ s. opens-with s 2 9) (frames (5 ∷ 2 ∷ 9 ∷ []))
+    && in-each (λ s. opens-with s 2 9) (frames (9 ∷ 5 ∷ 2 ∷ [])))
+unfolding computed
+any-record = tt
+
+-- a file of one record in every section, at these frames
+abbrev one-each : ℕ → ℕ → ℕ → ℕ → ℕ → ℕ → List ℕ
+one-each b m c l s p =
+    start ++ u1 ++ bone-bytes 65 0 b ++ u1 ++ morph-bytes 66 0 m ++ u1 ++ camera-bytes c 1
+    ++ u1 ++ light-bytes l ++ u1 ++ shadow-bytes s 2 ++ u1 ++ fours (p ∷ []) ++ (1 ∷ []) ++ u0
+
+-- and whichever section it stands in
+pub frames-anywhere : T (
+    opens-with (one-each 2 9 8 7 6 5) 2 9
+    && opens-with (one-each 5 2 9 8 7 6) 2 9
+    && opens-with (one-each 6 5 2 9 8 7) 2 9
+    && opens-with (one-each 7 6 5 2 9 8) 2 9
+    && opens-with (one-each 8 7 6 5 2 9) 2 9
+    && opens-with (one-each 9 8 7 6 5 2) 2 9)
+unfolding computed
+frames-anywhere = tt
+
+-- what a join of two files opens with, by what these open with
+abbrev joined-opening : Answer Opening → Answer Opening → ℕ → Bool
+joined-opening (declined k) y n = false
+joined-opening (given o) (declined k) n = false
+joined-opening (given o) (given p) n = eqb (joined-smallest o p) n
+
+abbrev joins-with : List ℕ → List ℕ → ℕ → Bool
+joins-with s t n = joined-opening (open-file lenient s 3) (open-file lenient t 3) n && joined-opening (open-file lenient t 3) (open-file lenient s 3) n
+
+-- on either side, records in any one section count, and a file without records does not
+pub joined-anywhere : T (
+    in-each (λ s. joins-with s (start ++ u0) 4) (frames (4 ∷ 8 ∷ []))
+    && in-each (λ s. joins-with s (one-each 6 6 6 6 6 6) 4) (frames (4 ∷ 8 ∷ []))
+    && in-each (λ s. joins-with s (one-each 3 3 3 3 3 3) 3) (frames (4 ∷ 8 ∷ []))
+    && joins-with (start ++ u0) (start ++ u0) 0)
+unfolding computed
+joined-anywhere = tt
+
+-- how many records there are
+abbrev counted : Answer Opening → ℕ → Bool
+counted (declined k) n = false
+counted (given o) n = eqb (record-count (o .scan)) n
+
+abbrev counts-records : List ℕ → ℕ → Bool
+counts-records s n = counted (open-file lenient s 3) n
+
+pub records-counted : T (
+    in-each (λ s. counts-records s 3) (frames (1 ∷ 1 ∷ 1 ∷ []))
+    && counts-records (one-each 1 1 1 1 1 1) 6
+    && counts-records (start ++ u0) 0)
+unfolding computed
+records-counted = tt

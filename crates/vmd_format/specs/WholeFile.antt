@@ -8,7 +8,7 @@ use lib.Dec.{eqb, T}
 use Rattle.vmd_format.specs.Answer.{given, map-answer}
 use Rattle.vmd_format.specs.Read.{lenient}
 use Rattle.vmd_format.specs.Take.{Take, read-take}
-use Rattle.vmd_format.specs.Opening.{largest-frame, open-file, positions, scratch-after}
+use Rattle.vmd_format.specs.Opening.{open-file, positions, scratch-after}
 use Rattle.vmd_format.specs.Join.{export-file}
 use Rattle.vmd_format.specs.Computed.{computed, declines, bytes-of, text, fours, bone-bytes, bone-said, morph-bytes, morph-said, camera-bytes, camera-said, light-bytes, light-said, shadow-bytes, shadow-said, ik-bytes, ik-said}
 
@@ -77,6 +77,7 @@ pub file-opened : open-file lenient file 3 ≡ given (record {
     properties = record { count = 3; place = 593 };
     ik-states = 3;
   };
+  smallest-frame = 1;
   largest-frame = 70000;
 })
 unfolding computed
@@ -118,26 +119,3 @@ file-exported = refl
 pub export-length : T (eqb (length (bytes-of (export-file lenient file))) 683)
 unfolding computed
 export-length = tt
-
--- a take with one record in every section, at these frames
-abbrev at-frames : ℕ → ℕ → ℕ → ℕ → ℕ → ℕ → Take
-at-frames b m c l s p = record {
-  model = [];
-  bones = bone-said 65 b ∷ [];
-  morphs = morph-said 66 m ∷ [];
-  cameras = camera-said c true ∷ [];
-  lights = light-said l ∷ [];
-  self-shadows = shadow-said s 0 ∷ [];
-  properties = record { frame = p; visible = true; ik-states = [] } ∷ [];
-}
-
--- the largest frame is found in whichever section it stands
-pub largest-anywhere : T (
-    eqb (largest-frame (at-frames 9 1 2 3 4 5)) 9
-    && eqb (largest-frame (at-frames 5 9 1 2 3 4)) 9
-    && eqb (largest-frame (at-frames 4 5 9 1 2 3)) 9
-    && eqb (largest-frame (at-frames 3 4 5 9 1 2)) 9
-    && eqb (largest-frame (at-frames 2 3 4 5 9 1)) 9
-    && eqb (largest-frame (at-frames 1 2 3 4 5 9)) 9)
-unfolding computed
-largest-anywhere = tt

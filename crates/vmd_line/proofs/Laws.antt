@@ -117,13 +117,13 @@ row-turn ns o out k from at i end g h w r d f =
     rw (a, p, spaced-snoc (run ns 1 (i - 1)) (getD ns i 0), ← append-assoc u (32 ∷ []) (decimal (getD ns i 0)))
     (wrote-more (wrote-byte w 32 r) d f)
 
-row-parts : (ns : List ℕ) → length ns ≡ 9 → row ns ≡ decimal (getD ns 0 0) ++ spaced (run ns 1 8) ++ (10 ∷ [])
+row-parts : (ns : List ℕ) → length ns ≡ 10 → row ns ≡ decimal (getD ns 0 0) ++ spaced (run ns 1 9) ++ (10 ∷ [])
 unfolding row run
 row-parts [] h = absurd (omega arith)
-row-parts (n ∷ l) h = rw (take-all 8 l (omega arith))
+row-parts (n ∷ l) h = rw (take-all 9 l (omega arith))
 
 -- the first number, the others and a line feed
-pub row-done : (l ns o out : List ℕ) (from at : ℕ) → length ns ≡ 9 → Wrote l 0 (decimal (getD ns 0 0)) o from → Wrote o from (spaced (run ns 1 8)) out at
+pub row-done : (l ns o out : List ℕ) (from at : ℕ) → length ns ≡ 10 → Wrote l 0 (decimal (getD ns 0 0)) o from → Wrote o from (spaced (run ns 1 9)) out at
     → at < length l → Wrote l 0 (row ns) (set out at 10) (at + 1)
 row-done l ns o out from at h v w r = rw (row-parts ns h) (wrote-byte (wrote-more v w (omega arith)) 10 r)
 

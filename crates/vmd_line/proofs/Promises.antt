@@ -1,6 +1,6 @@
 -- Two promises of the line: its last number is the length of the export, and 8,192 places of scratch are enough. Assumes nothing.
 use Prim.Native.Nat.{ℕ, _≤_}
-use mathlib.Core.Path.{_≡_, ap}
+use mathlib.Core.Path.{_≡_, refl, ap}
 use mathlib.Core.Bool.{_&&_}
 use mathlib.Core.List.{List, [], _∷_, _++_}
 use native.Mathlib.Omega.{arith}
@@ -47,7 +47,27 @@ pub examples : T (
     same (decimal 0) (48 ∷ [])
     && same (decimal 10) (49 ∷ 48 ∷ [])
     && same (decimal 65536) (54 ∷ 53 ∷ 53 ∷ 51 ∷ 54 ∷ [])
-    && same (line lenient (start ++ u0) 0) (48 ∷ 32 ∷ 48 ∷ 32 ∷ 48 ∷ 32 ∷ 48 ∷ 32 ∷ 48 ∷ 32 ∷ 48 ∷ 32 ∷ 48 ∷ 32 ∷ 48 ∷ 32 ∷ 55 ∷ 52 ∷ 10 ∷ [])
+    && same (line lenient (start ++ u0) 0) (48 ∷ 32 ∷ 48 ∷ 32 ∷ 48 ∷ 32 ∷ 48 ∷ 32 ∷ 48 ∷ 32 ∷ 48 ∷ 32 ∷ 48 ∷ 32 ∷ 48 ∷ 32 ∷ 48 ∷ 32 ∷ 55 ∷ 52 ∷ 10 ∷ [])
     && same (line lenient start 0) (114 ∷ 101 ∷ 102 ∷ 117 ∷ 115 ∷ 101 ∷ 100 ∷ 32 ∷ 49 ∷ 10 ∷ []))
 unfolding computed file-length tens-if digits decimal spaced row too-long refused-line export-size numbers line-of line-if line
 examples = tt
+
+-- which number stands where: 74 + 111 * 1 + 23 * 2 + 61 * 3 + 28 * 4 + 9 * 5 + 9 * 6 + 21 * 7 is 772
+pub in-order :
+    numbers
+    (record {
+      scan = record {
+        bones = record { count = 1; place = 11 };
+        morphs = record { count = 2; place = 12 };
+        cameras = record { count = 3; place = 13 };
+        lights = record { count = 4; place = 14 };
+        self-shadows = record { count = 5; place = 15 };
+        properties = record { count = 6; place = 16 };
+        ik-states = 7;
+      };
+      smallest-frame = 8;
+      largest-frame = 9;
+    })
+    ≡ 1 ∷ 2 ∷ 3 ∷ 4 ∷ 5 ∷ 6 ∷ 7 ∷ 8 ∷ 9 ∷ 772 ∷ []
+unfolding file-length export-size numbers
+in-order = refl

@@ -52,11 +52,12 @@ export-size x =
     file-length (x .bones .count) (x .morphs .count) (x .cameras .count) (x .lights .count) (x .self-shadows .count) (x .properties .count)
     (x .ik-states)
 
--- "bones, morphs, cameras, lights, self-shadows, properties, IK states, largest frame, export length"
+-- "bones, morphs, cameras, lights, self-shadows, properties, IK states, largest frame, export length"; the smallest frame
+-- "stands just before the largest frame" (02 c)
 unfoldable pub numbers : Opening → List ℕ
 numbers o =
     o .scan .bones .count ∷ o .scan .morphs .count ∷ o .scan .cameras .count ∷ o .scan .lights .count ∷ o .scan .self-shadows .count
-    ∷ o .scan .properties .count ∷ o .scan .ik-states ∷ o .largest-frame ∷ export-size (o .scan) ∷ []
+    ∷ o .scan .properties .count ∷ o .scan .ik-states ∷ o .smallest-frame ∷ o .largest-frame ∷ export-size (o .scan) ∷ []
 
 -- "A refused file prints `refused` and the number"
 unfoldable pub line-of : Answer Opening → List ℕ

@@ -53,14 +53,14 @@ fn write_text(out: &mut [u8], to: usize, text: &[u8]) -> usize
     to + n
 }
 
-// Writes nine numbers with single spaces between them and a line feed, and returns their length.
+// Writes ten numbers with single spaces between them and a line feed, and returns their length.
 fn write_row(out: &mut [u8], numbers: &[u64]) -> usize
-    requires { ⌜ (length (now out) ≡ 256) × (length (now numbers) ≡ 9) ⌝ }
+    requires { ⌜ (length (now out) ≡ 256) × (length (now numbers) ≡ 10) ⌝ }
     ensures { λ r. ⌜ Wrote (now (out .entry)) 0 (row (now (numbers .entry))) (now (out .exit)) r ⌝ }
 {
     let mut at = write_decimal(out, 0, numbers[0]);
     let mut i = 1;
-    while i < 9 {
+    while i < 10 {
         out[at] = b' ';
         at = write_decimal(out, at + 1, numbers[i]);
         i += 1;
@@ -99,8 +99,8 @@ fn export_size(sections: VmdSections) -> u64
     }
 }
 
-// The nine numbers of an opening.
-fn numbers_of(opening: VmdOpening) -> [u64; 9]
+// The ten numbers of an opening.
+fn numbers_of(opening: VmdOpening) -> [u64; 10]
     requires { ⌜ opening .sections .«ik_states» ≤ 65536 ⌝ }
     ensures { λ r. ⌜ r ≡ numbers (opening-is opening) ⌝ }
 {
@@ -114,6 +114,7 @@ fn numbers_of(opening: VmdOpening) -> [u64; 9]
         sections.self_shadows.count as u64,
         sections.properties.count as u64,
         sections.ik_states,
+        opening.min_frame as u64,
         opening.max_frame as u64,
         size,
     ]

@@ -1,5 +1,5 @@
-// Prints one line for the take on standard input: its numbers of records, its largest frame and the length of its export, or
-// why it is turned down.
+// Prints one line for the take on standard input: its numbers of records, its smallest and its largest frame and the length of
+// its export, or why it is turned down.
 use libc::STDIN_FILENO;
 use libc::STDOUT_FILENO;
 

@@ -11,11 +11,13 @@ use Rattle.vmd_format.specs.Refusal.{Refusal, scratch-too-short}
 use Rattle.vmd_format.specs.Answer.{Answer, declined, given, and-then, map-answer, unless}
 use Rattle.vmd_format.specs.Read.{Manner}
 use Rattle.vmd_format.specs.Opening.{Extent, Scan, open-file, scratch-if, scratch-after}
-use Rattle.vmd_format.specs.Places.{scan-file, frame-places, scan-largest, open-scan, scan-scratch}
+use Rattle.vmd_format.specs.Places.{scan-file, frame-places, opening-at, open-scan, scan-scratch}
 use Rattle.vmd_format.specs.OpeningLaws.{open-by-places, scratch-by-places}
 use Rattle.vmd_format.specs.FetchLaws.{places-length}
 use Rattle.vmd_format.specs.Fetch.{record-place, fetch, property-place, property-at, fetch-property, fetch-ik-state}
 use Rattle.vmd_format.specs.Records.{ik-state}
+use Rattle.vmd_scan.specs.declared.VmdFrames.{VmdFrames}
+use Rattle.vmd_scan.specs.Frames.{frames-of}
 use Rattle.vmd_places.specs.Meaning.{ik-place}
 use Rattle.vmd_places.proofs.Fields.{ik-is}
 
@@ -59,9 +61,10 @@ ik-read p scratch i j s = record { read = ik-is p scratch i j s }
 -- ---- opening
 
 module _ (s : List ℕ) (x : Scan) where
-  pub opens : (places top : ℕ) → x .properties .count ≤ places → top ≡ scan-largest s x → given (record { scan = x; largest-frame = top }) ≡ open-scan s places x
-  unfolding open-scan unless
-  opens places top h e = rw (le-leb (x .properties .count) places h, e)
+  pub opens : (places : ℕ) (f : VmdFrames) → x .properties .count ≤ places → f ≡ frames-of s x
+      → given (record { scan = x; smallest-frame = f .smallest; largest-frame = f .largest }) ≡ open-scan s places x
+  unfolding open-scan opening-at unless frames-of
+  opens places f h e = rw (le-leb (x .properties .count) places h, e)
 
   pub opens-not : (places : ℕ) → places < x .properties .count → declined scratch-too-short ≡ open-scan s places x
   unfolding open-scan unless

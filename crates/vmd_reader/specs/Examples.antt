@@ -43,7 +43,8 @@ pub an-opening :
         properties = record { count = 6; place = 593 };
         «ik_states» = 7;
       };
-      «max_frame» = 8;
+      «min_frame» = 8;
+      «max_frame» = 9;
     }))
     ≡ given (record {
       scan = record {
@@ -55,7 +56,8 @@ pub an-opening :
         properties = record { count = 6; place = 593 };
         ik-states = 7;
       };
-      largest-frame = 8;
+      smallest-frame = 8;
+      largest-frame = 9;
     }))
     × (opening-answer (opened.Refused ScratchTooShort) ≡ declined scratch-too-short)
 an-opening = (refl, refl)

@@ -32,7 +32,7 @@ use Rattle.vmd_reader.specs.declared.VmdIkStateAnswer.{VmdIkStateAnswer}
 use Rattle.vmd_reader.specs.declared.VmdIkStateAnswer.the-variants as ik-state
 
 abbrev pub opening-is : VmdOpening → Opening
-opening-is o = record { scan = scan-is (o .sections); largest-frame = o .«max_frame» }
+opening-is o = record { scan = scan-is (o .sections); smallest-frame = o .«min_frame»; largest-frame = o .«max_frame» }
 
 abbrev pub opening-answer : VmdOpened → Answer Opening
 opening-answer (opened.Refused k) = declined (refusal-of k)

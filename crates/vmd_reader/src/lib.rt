@@ -30,9 +30,10 @@ ghost use Rattle.vmd_places.specs.Parts.{file-part, part-in};
 ghost use Rattle.vmd_scan.specs.Meaning.{scan-is};
 ghost use Rattle.vmd_reader.specs.Meaning.{opening-is, opening-answer, bone-answer, morph-answer, camera-answer, light-answer, light-bits-answer, self-shadow-answer, property-answer, ik-state-answer};
 
-// What opening gives: the sections' counts and places, the number of IK states, and the largest frame.
+// What opening gives: the sections' counts and places, the number of IK states, and the smallest and the largest frame.
 pub struct VmdOpening {
     pub sections: VmdSections,
+    pub min_frame: u32,
     pub max_frame: u32,
 }
 
@@ -99,6 +100,7 @@ fn open_sections(file: &[u8], sections: VmdSections, scratch: &mut [u64]) -> Vmd
     vmd_scan::write_frame_places(file, place, n, scratch);
     VmdOpened::Opened(VmdOpening {
         sections,
+        min_frame: frames.smallest,
         max_frame: frames.largest,
     })
 }

@@ -24,13 +24,13 @@ ghost use lib.Dec.{leb};
 ghost use lib.ListN.{length, drop};
 ghost use Rattle.vmd_format.specs.Answer.{given, map-answer};
 ghost use Rattle.vmd_format.specs.Fetch.{model-of};
-ghost use Rattle.vmd_format.specs.Places.{header-place, header-places, no-span, over-span, span, optional-span, walk, over-if, scan-sections, scan-file, next-frame, frame-places, Reaches};
+ghost use Rattle.vmd_format.specs.Places.{header-place, header-places, no-span, over-span, span, optional-span, walk, over-if, scan-sections, scan-file, next-frame, frame-places, scan-frames, Reaches};
 ghost use Rattle.vmd_format.specs.ScanLaws.{ExtentWithin, Inside};
 ghost use Rattle.vmd_base.specs.Meaning.{manner-of, extent-is};
 ghost use Rattle.vmd_records.specs.Kinds.{size-of};
 ghost use Rattle.vmd_places.specs.Parts.{file-part};
 ghost use Rattle.vmd_scan.specs.Stages.{read-number, optional-number, counted-span, scan-front, scan-back, scan-joined, scan-end};
-ghost use Rattle.vmd_scan.specs.Frames.{no-frames, with-frame, with-records, with-properties, frames-of};
+ghost use Rattle.vmd_scan.specs.Frames.{no-frames, with-frame, with-frames, with-records, with-properties, frames-of};
 ghost use Rattle.vmd_scan.specs.Meaning.{oversized-of, over-of, scan-is, header-answer, number-answer, optional-answer, span-answer, walk-answer, front-is, back-is, front-answer, back-answer, scan-answer};
 
 // ---- types
@@ -372,24 +372,29 @@ pub fn write_frame_places(file: &[u8], place: usize, n: usize, scratch: &mut [u6
 
 // ---- frames
 
-// What a pass over a file's frames gathers, handed on from record to record and from section to section. A further figure is
-// a field more.
+// The smallest and the largest frame of a file, or of what a pass has seen of it: handed on from record to record and from
+// section to section.
 pub struct VmdFrames {
+    pub smallest: u32,
     pub largest: u32,
 }
 
 impl VmdFrames {
-    // Before any frame.
+    // Before any frame: no frame is above the first or below the second.
     fn none() -> VmdFrames
         ensures { λ r. ⌜ r ≡ no-frames ⌝ }
     {
-        VmdFrames { largest: 0 }
+        VmdFrames {
+            smallest: 4294967295,
+            largest: 0,
+        }
     }
 
     fn with_frame(self, frame: u32) -> VmdFrames
         ensures { λ r. ⌜ r ≡ with-frame self frame ⌝ }
     {
         VmdFrames {
+            smallest: vmd_bytes::smaller(self.smallest, frame),
             largest: vmd_bytes::larger(self.largest, frame),
         }
     }
@@ -570,9 +575,9 @@ pub fn scan_file(file: &[u8], manner: VmdManner) -> ScanAnswer
 }
 
 // The frames of a scanned file, in one pass over its sections.
-pub fn frames_of(file: &[u8], sections: VmdSections) -> VmdFrames
+fn all_frames(file: &[u8], sections: VmdSections) -> VmdFrames
     requires { ⌜ Inside (now file) (scan-is sections) ⌝ }
-    ensures { λ r. ⌜ r ≡ frames-of (now (file .entry)) (scan-is sections) ⌝ }
+    ensures { λ r. ⌜ r ≡ with-frames no-frames (scan-frames (now (file .entry)) (scan-is sections)) ⌝ }
 {
     let bones = with_records(file, VmdKind::Bone, sections.bones, VmdFrames::none());
     let morphs = with_records(file, VmdKind::Morph, sections.morphs, bones);
@@ -580,4 +585,43 @@ pub fn frames_of(file: &[u8], sections: VmdSections) -> VmdFrames
     let lights = with_records(file, VmdKind::Light, sections.lights, cameras);
     let self_shadows = with_records(file, VmdKind::SelfShadow, sections.self_shadows, lights);
     with_properties(file, sections.properties, self_shadows)
+}
+
+// The records of all six sections.
+fn record_count(
+    bones: u32,
+    morphs: u32,
+    cameras: u32,
+    lights: u32,
+    self_shadows: u32,
+    properties: u32,
+) -> u64
+    ensures { λ r. ⌜ r ≡ bones + morphs + cameras + lights + «self_shadows» + properties ⌝ }
+{
+    let front = (bones as u64) + (morphs as u64) + (cameras as u64);
+    let back = (lights as u64) + (self_shadows as u64) + (properties as u64);
+    front + back
+}
+
+// The smallest and the largest frame of a scanned file. Whether there are any is told by the counts: a frame may be the
+// largest number there is.
+pub fn frames_of(file: &[u8], sections: VmdSections) -> VmdFrames
+    requires { ⌜ Inside (now file) (scan-is sections) ⌝ }
+    ensures { λ r. ⌜ r ≡ frames-of (now (file .entry)) (scan-is sections) ⌝ }
+{
+    let records = record_count(
+        sections.bones.count,
+        sections.morphs.count,
+        sections.cameras.count,
+        sections.lights.count,
+        sections.self_shadows.count,
+        sections.properties.count,
+    );
+    if records == 0 {
+        return VmdFrames {
+            smallest: 0,
+            largest: 0,
+        };
+    }
+    all_frames(file, sections)
 }

@@ -32,6 +32,20 @@ pub fn bones(n: u32, seed: u32) -> Vec<u8> {
     file
 }
 
+/// A take with a record at each of these frames, section by section. Its other fields are zeros.
+pub fn at_frames(frames: [Vec<u32>; 6]) -> Vec<u8> {
+    let mut file = start();
+    for (frames, (size, at)) in frames.iter().zip([(111, 15), (23, 15), (61, 0), (28, 0), (9, 0), (9, 0)]) {
+        file.extend((frames.len() as u32).to_le_bytes());
+        for frame in frames {
+            let record = file.len();
+            file.resize(record + size, 0);
+            file[record + at..][..4].copy_from_slice(&frame.to_le_bytes());
+        }
+    }
+    file
+}
+
 /// A folder of the test's own, removed with all in it when it goes out of scope.
 pub struct Folder(pub PathBuf);
 

@@ -17,7 +17,7 @@ returns c =
 returns-2 : tie.Need-returns-2
 unfolding counts-of places-of totals-of
 returns-2 c =
-    let t = c .before .before .before .before .before .before in
+    let t = c .before .before .before .before .before .before .before in
     let o = t .before .before .before .before .parse-vmd-animation .ensures in
     let e = sym (o .0) ∙ ap opening-answer (t .o .given .1) in
     (status-given e, slot-given _ _ e refl, slot-given _ _ e refl, slot-given _ _ e refl, o .1)
@@ -26,4 +26,4 @@ pub vmd-parse-animation-spec : {M : Type 1} → statement M
 vmd-parse-animation-spec =
     tie.close
     (tie.spec (λ c κs. search needs) (λ c. search needs) (λ c κs. search needs) (λ c. search needs) (λ c. search needs) (λ c. search needs)
-    returns (λ c. search needs) returns-2)
+    (λ c. search needs) returns (λ c. search needs) returns-2)

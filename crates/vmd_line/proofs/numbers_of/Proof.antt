@@ -10,10 +10,10 @@ cast-t9 c = omega (arith, c .struct-known6 .given)
 
 returns : tie.Need-returns
 unfolding numbers
-returns c = rw (c .before .before .before .before .before .before .before .export-size .ensures)
+returns c = rw (c .before .before .before .before .before .before .before .before .export-size .ensures)
 
 pub numbers-of-spec : {M : Type 1} → statement M
 numbers-of-spec =
     tie.close
     (tie.spec (λ c κs. search needs) (λ c. search needs) (λ c. search needs) (λ c. search needs) (λ c. search needs) (λ c. search needs) cast-t9
-    (λ c. search needs) returns)
+    (λ c. search needs) (λ c. search needs) returns)

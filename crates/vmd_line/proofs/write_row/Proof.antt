@@ -14,10 +14,10 @@ use Rattle.vmd_line.proofs.write_row.Tie as tie
 
 abbrev Inv-loop : tie.InvT-loop
 Inv-loop out₀ numbers at₀ i₀ out at i =
-    (1 ≤ i) × (i ≤ 9) × (at + 1 ≤ 21 * i) × (length out ≡ 256) × (length out₀ ≡ 256) × Wrote out₀ at₀ (spaced (run numbers 1 (i - 1))) out at
+    (1 ≤ i) × (i ≤ 10) × (at + 1 ≤ 21 * i) × (length out ≡ 256) × (length out₀ ≡ 256) × Wrote out₀ at₀ (spaced (run numbers 1 (i - 1))) out at
 
 abbrev μ-loop : tie.MeasureT-loop
-μ-loop out₀ numbers at₀ i₀ out at i = 9 - i
+μ-loop out₀ numbers at₀ i₀ out at i = 10 - i
 
 loop-holds : tie.Need-loop-holds Inv-loop μ-loop
 unfolding spaced
@@ -31,7 +31,7 @@ loop-again c =
     let w = c .before .before .write-decimal2 in
     let t = c .before .before .before .before .before in
     let inv = t .before .loop .inv in
-    let n : length (t .before .before .before .before .before .before .before .before .before .args .numbers .now) ≡ 9 = omega arith in
+    let n : length (t .before .before .before .before .before .before .before .before .before .args .numbers .now) ≡ 10 = omega arith in
     let e : w .result + 1 ≤ 21 * (t .before .loop .i + 1) = omega (arith, w .ensures .1) in
     let l : length (w .last .0) ≡ 256 = w .kept .0 ∙ simp length-set (inv .3) in (
       omega arith,
@@ -47,8 +47,8 @@ returns c =
     let s = c .before .before .before .before in
     let w = s .write-decimal in
     let l = c .before .loop .inv in
-    let n : length (s .before .before .before .before .before .args .numbers .now) ≡ 9 = omega arith in
-    let i : c .before .loop .i - 1 ≡ 8 = omega arith in
+    let n : length (s .before .before .before .before .before .args .numbers .now) ≡ 10 = omega arith in
+    let i : c .before .loop .i - 1 ≡ 9 = omega arith in
     row-done _ _ _ _ _ _ n (w .ensures .0) (rw i at (l .5)) (omega arith)
 
 pub write-row-spec : {M : Type 1} → statement M

@@ -1,9 +1,7 @@
 -- `vmd_reader::open_sections` meets its contract. Assumes nothing.
-use mathlib.Core.Path.{ap, _∙_}
 use native.Mathlib.Omega.{arith}
 use borrow.Author.Needs.{needs}
 use Rattle.vmd_format.specs.InsideLaws.{inside-reaches}
-use Rattle.vmd_scan.proofs.Frames.{frames-largest}
 use Rattle.vmd_reader.proofs.Laws.{opens, opens-not, fills, fills-not}
 use Rattle.vmd_reader.proofs.open_sections.Statement.{statement}
 use Rattle.vmd_reader.proofs.open_sections.Tie as tie
@@ -18,7 +16,7 @@ returns-2 : tie.Need-returns-2
 returns-2 c =
     let w = c .before .before in
     let m = w .before .before in (
-      opens _ _ _ _ (m .before .if1 .left) (ap (λ f. f .largest) (m .frames-of .ensures) ∙ frames-largest _ _),
+      opens _ _ _ _ (m .before .if1 .left) (m .frames-of .ensures),
       fills _ _ _ _ (m .before .if1 .left) (w .write-frame-places .ensures),
     )
 

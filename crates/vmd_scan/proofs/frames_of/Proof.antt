@@ -1,33 +1,24 @@
 -- `vmd_scan::frames_of` meets its contract. Assumes nothing.
+use mathlib.Core.Path.{sym, _∙_}
+use native.Mathlib.Omega.{arith}
 use borrow.Author.Needs.{needs}
-use Rattle.vmd_scan.specs.Meaning.{scan-is}
-use Rattle.vmd_scan.specs.Frames.{frames-of}
-use Rattle.vmd_format.specs.InsideLaws.{inside-reaches}
+use Rattle.vmd_format.specs.BytesLaws.{Bytes}
+use Rattle.vmd_format.specs.Opening.{record-count}
+use Rattle.vmd_scan.proofs.Frames.{frames-none, frames-some}
 use Rattle.vmd_scan.proofs.frames_of.Statement.{statement}
 use Rattle.vmd_scan.proofs.frames_of.Tie as tie
 
-with-properties-requires : tie.Need-with-properties-requires
-with-properties-requires c κs =
-    let s = c .before .before .before .before .before .before .before in
-    inside-reaches (s .args .file .now) (scan-is (s .args .sections)) (s .pre)
-
 returns : tie.Need-returns
-unfolding frames-of
-returns c =
-    let t = c .before in
-    let u = t .before .before in
-    rw (
-      c .with-properties .ensures,
-      t .with-records5 .ensures,
-      t .before .with-records4 .ensures,
-      u .with-records3 .ensures,
-      u .before .with-records2 .ensures,
-      u .before .before .with-records .ensures,
-      u .before .before .before .none .ensures,
-    )
+unfolding record-count
+returns c = frames-none _ _ (sym (c .before .record-count .ensures) ∙ c .if1 .taken)
+
+returns-2 : tie.Need-returns-2
+unfolding record-count
+returns-2 c =
+    let i = c .before in
+    let k = i .before .before in
+    let bytes : Bytes (k .before .args .file .now) = λ j. omega (arith, k .shared-slice-known .given j) in
+    c .all-frames .ensures ∙ frames-some _ _ bytes (λ e. i .if1 .left (i .before .record-count .ensures ∙ e))
 
 pub frames-of-spec : {M : Type 1} → statement M
-frames-of-spec =
-    tie.close
-    (tie.spec (λ c κs. search needs) (λ c κs. search needs) (λ c κs. search needs) (λ c κs. search needs) (λ c κs. search needs) (λ c κs. search needs)
-    with-properties-requires returns)
+frames-of-spec = tie.close (tie.spec (λ c κs. search needs) returns (λ c κs. search needs) returns-2)

@@ -10,6 +10,10 @@ pub enum Alter {
     OpeningCount,
     OpeningPlace,
     IkStatesDropped,
+    SmallestFrame,
+    SmallestFrameOfNone,
+    SmallestFrameAsNone,
+    FramesSwapped,
     LargestFrame,
     ScratchPosition,
     ScratchPastItsEnd,
@@ -61,11 +65,15 @@ pub enum Alter {
     SeasonNone,
 }
 
-pub const ALTERATIONS: [Alter; 53] = [
+pub const ALTERATIONS: [Alter; 57] = [
     Alter::OpeningRefusal,
     Alter::OpeningCount,
     Alter::OpeningPlace,
     Alter::IkStatesDropped,
+    Alter::SmallestFrame,
+    Alter::SmallestFrameOfNone,
+    Alter::SmallestFrameAsNone,
+    Alter::FramesSwapped,
     Alter::LargestFrame,
     Alter::ScratchPosition,
     Alter::ScratchPastItsEnd,

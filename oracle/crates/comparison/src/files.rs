@@ -36,7 +36,7 @@ pub struct LightNans {
 }
 
 fn unset_opening() -> Opening {
-    Opening { counts: [UNSET; 6], places: [u64::MAX - 1; 6], totals: [u64::MAX - 2; 2] }
+    Opening { counts: [UNSET; 6], places: [u64::MAX - 1; 6], totals: [u64::MAX - 2; 3] }
 }
 
 impl FileCheck {
@@ -140,7 +140,7 @@ fn opening_of(file: &[u8], take: &VmdParsedAnimation) -> (Opening, Vec<u64>) {
     });
     let positions = positions.collect();
     let ik_states: usize = take.property_frames.iter().map(|frame| frame.ik_states.len()).sum();
-    let totals = [ik_states as u64, take.metadata.max_frame as u64];
+    let totals = [ik_states as u64, original::smallest_frame(take) as u64, take.metadata.max_frame as u64];
     (Opening { counts: counts.map(|count| count as u32), places, totals }, positions)
 }
 

@@ -2,6 +2,7 @@
 
 use crate::alter::{altered, Alter};
 use crate::header;
+use crate::header::indices::{VMD_TOTAL_IK_STATES, VMD_TOTAL_LARGEST_FRAME, VMD_TOTAL_SMALLEST_FRAME};
 use oracle::original;
 use oracle::parts::{Columns, Parts};
 
@@ -27,7 +28,8 @@ fn pointer_mut<T>(slice: &mut [T]) -> *mut T {
 pub struct Opening {
     pub counts: [u32; 6],
     pub places: [u64; 6],
-    pub totals: [u64; 2],
+    /// IK states, smallest frame, largest frame.
+    pub totals: [u64; 3],
 }
 
 pub fn parse_animation(file: &[u8], scratch: &mut [u64], opening: &mut Opening) -> u32 {
@@ -54,9 +56,17 @@ fn alter_opening(answer: u32, scratch: &mut [u64], opening: &mut Opening) -> u32
     } else if altered(Alter::OpeningPlace) {
         opening.places[2] -= 1;
     } else if altered(Alter::IkStatesDropped) {
-        opening.totals[0] = 0;
+        opening.totals[VMD_TOTAL_IK_STATES] = 0;
+    } else if altered(Alter::SmallestFrame) {
+        opening.totals[VMD_TOTAL_SMALLEST_FRAME] &= 0x7fff_ffff;
+    } else if altered(Alter::SmallestFrameOfNone) && opening.counts == [0; 6] {
+        opening.totals[VMD_TOTAL_SMALLEST_FRAME] = u32::MAX as u64;
+    } else if altered(Alter::SmallestFrameAsNone) && opening.totals[VMD_TOTAL_SMALLEST_FRAME] == u32::MAX as u64 {
+        opening.totals[VMD_TOTAL_SMALLEST_FRAME] = 0;
+    } else if altered(Alter::FramesSwapped) {
+        opening.totals.swap(VMD_TOTAL_SMALLEST_FRAME, VMD_TOTAL_LARGEST_FRAME);
     } else if altered(Alter::LargestFrame) {
-        opening.totals[1] &= 0x7fff_ffff;
+        opening.totals[VMD_TOTAL_LARGEST_FRAME] &= 0x7fff_ffff;
     } else if altered(Alter::ScratchPosition) && frames > 1 {
         scratch[1] += 21;
     } else if altered(Alter::ScratchPastItsEnd) && frames < scratch.len() {

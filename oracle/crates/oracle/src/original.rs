@@ -24,6 +24,18 @@ pub fn read(file: &[u8]) -> Result<VmdParsedAnimation, u32> {
     })
 }
 
+/// Request c)'s smallest frame, over the records that the original read. It keeps the largest alone.
+pub fn smallest_frame(take: &VmdParsedAnimation) -> u32 {
+    let bones = take.bone_frames.iter().map(|record| record.frame);
+    let morphs = take.morph_frames.iter().map(|record| record.frame);
+    let cameras = take.camera_frames.iter().map(|record| record.frame);
+    let lights = take.light_frames.iter().map(|record| record.frame);
+    let self_shadows = take.self_shadow_frames.iter().map(|record| record.frame);
+    let properties = take.property_frames.iter().map(|record| record.frame);
+    let frames = bones.chain(morphs).chain(cameras).chain(lights).chain(self_shadows).chain(properties);
+    frames.min().unwrap_or(0)
+}
+
 pub fn export(take: &VmdParsedAnimation) -> Vec<u8> {
     export_vmd_animation(take)
 }

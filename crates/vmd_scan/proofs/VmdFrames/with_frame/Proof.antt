@@ -4,7 +4,7 @@ use Rattle.vmd_scan.proofs.VmdFrames.with_frame.Statement.{statement}
 use Rattle.vmd_scan.proofs.VmdFrames.with_frame.Tie as tie
 
 returns : tie.Need-returns
-returns c = rw (c .larger .ensures)
+returns c = rw (c .before .smaller .ensures, c .larger .ensures)
 
 pub with-frame-spec : {M : Type 1} → statement M
-with-frame-spec = tie.close (tie.spec (λ c κs. search needs) returns)
+with-frame-spec = tie.close (tie.spec (λ c κs. search needs) (λ c κs. search needs) returns)

@@ -142,7 +142,7 @@ const IMPORTS: [(&str, &[&str]); 14] = [
     ("Rattle.vmd_format.specs.Answer", &["Answer", "declined", "given"]),
     ("Rattle.vmd_format.specs.Read", &["lenient"]),
     ("Rattle.vmd_format.specs.Take", &["Take", "same", "read-take"]),
-    ("Rattle.vmd_format.specs.Opening", &["ik-total", "largest-frame"]),
+    ("Rattle.vmd_format.specs.Opening", &["ik-total", "smallest-frame", "largest-frame"]),
     ("Rattle.vmd_format.specs.Join", &["export-file", "join-files"]),
     ("Rattle.vmd_format.specs.Parts", &["Parts", "build"]),
     ("Rattle.vmd_format.specs.Computed", &["computed", "declines", "bytes-of", "counting"]),

@@ -153,7 +153,7 @@ impl Digest {
         self.bytes(name);
     }
 
-    /// Counts, IK states, largest frame, model name, then every field of every record.
+    /// Counts, IK states, smallest frame, largest frame, model name, then every field of every record.
     fn take(&mut self, take: &VmdParsedAnimation) {
         self.figures(take);
         self.bytes(&take.metadata.model_name_bytes);
@@ -188,6 +188,7 @@ impl Digest {
         }
         let ik_states: usize = take.property_frames.iter().map(|frame| frame.ik_states.len()).sum();
         self.number(ik_states as u32);
+        self.number(original::smallest_frame(take));
         self.number(take.metadata.max_frame);
     }
 

@@ -43,9 +43,9 @@ abbrev figures-of : Answer Take → List ℕ
 figures-of (declined k) = []
 figures-of (given t) =
     length (t .bones) ∷ length (t .morphs) ∷ length (t .cameras) ∷ length (t .lights) ∷ length (t .self-shadows) ∷ length (t .properties)
-    ∷ ik-total (t .properties) ∷ largest-frame t ∷ []
+    ∷ ik-total (t .properties) ∷ smallest-frame t ∷ largest-frame t ∷ []
 
--- the file has these six counts, IK states and largest frame
+-- the file has these six counts, IK states, smallest and largest frame
 abbrev pub figures : List ℕ → List ℕ → Bool
 figures s l = same (figures-of (read-take lenient s)) l
 
@@ -111,7 +111,8 @@ fn figures(take: &VmdParsedAnimation) -> Vec<u32> {
     let counts = &take.metadata.counts;
     let ik_states = take.property_frames.iter().map(|frame| frame.ik_states.len()).sum();
     let numbers = [counts.bones, counts.morphs, counts.cameras, counts.lights, counts.self_shadows, counts.properties, ik_states];
-    numbers.into_iter().map(|count| count as u32).chain([take.metadata.max_frame]).collect()
+    let frames = [original::smallest_frame(take), take.metadata.max_frame];
+    numbers.into_iter().map(|count| count as u32).chain(frames).collect()
 }
 
 /// The file's refusal, or its export and figures.

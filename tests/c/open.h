@@ -1,0 +1,61 @@
+/* Opening, through the C interface: the answer, every slot and every scratch place, against what expect.h expects. */
+#ifndef OPEN_H
+#define OPEN_H
+
+#include "check.h"
+#include "expect.h"
+#include "vmd.h"
+
+static struct fence lent_file, lent_scratch, lent_counts, lent_places, lent_totals;
+
+/* One opening with a scratch of this length. */
+static inline void open_with(const uint8_t *file, size_t len, size_t scratch_len, uint32_t number, const struct opening *o)
+{
+    uint8_t *f = lend(&lent_file, file, len);
+    uint64_t *scratch = lend_unwritten(&lent_scratch, scratch_len * sizeof *scratch);
+    uint32_t *counts = lend_unwritten(&lent_counts, sizeof o->counts);
+    uint64_t *places = lend_unwritten(&lent_places, sizeof o->places);
+    uint64_t *totals = lend_unwritten(&lent_totals, sizeof o->totals);
+
+    expect_number("parse_animation", vmd_parse_animation(f, len, scratch, scratch_len, counts, places, totals), number);
+    expect_lent("file", &lent_file, file, len);
+    if (number != VMD_OK) {
+        expect_lent_unwritten("counts", &lent_counts);
+        expect_lent_unwritten("places", &lent_places);
+        expect_lent_unwritten("totals", &lent_totals);
+        expect_lent_unwritten("scratch", &lent_scratch);
+        return;
+    }
+    expect_lent("counts", &lent_counts, o->counts, sizeof o->counts);
+    expect_lent("places", &lent_places, o->places, sizeof o->places);
+    expect_lent("totals", &lent_totals, o->totals, sizeof o->totals);
+    expect_unwritten("before the scratch", lent_scratch.at - 64, 64);
+    if (o->n_frames > 0)
+        expect_bytes("scratch", scratch, o->frames, o->n_frames * sizeof *scratch);
+    if (scratch_len > o->n_frames)
+        expect_unwritten("further scratch places", scratch + o->n_frames, (scratch_len - o->n_frames) * sizeof *scratch);
+}
+
+/* Opens a file with scratch for just its frames, with more, with none and with one place less. */
+static inline uint32_t try_opening(const uint8_t *file, size_t len, struct opening *o)
+{
+    uint32_t number = expected_opening(file, len, o);
+    open_with(file, len, o->n_frames, number, o);
+    open_with(file, len, o->n_frames + 5, number, o);
+    if (number == VMD_OK && o->n_frames > 0) {
+        open_with(file, len, 0, VMD_SCRATCH_TOO_SHORT, o);
+        open_with(file, len, o->n_frames - 1, VMD_SCRATCH_TOO_SHORT, o);
+    }
+    return number;
+}
+
+/* The same of a file that is accepted and whose frames the caller tells, so that expect.h is held to them too. */
+static inline void try_frames(const struct bytes *file, uint64_t smallest, uint64_t largest)
+{
+    struct opening o;
+    expect_number("refusal", try_opening(file->at, file->len, &o), VMD_OK);
+    expect_number("smallest frame", o.totals[VMD_TOTAL_SMALLEST_FRAME], smallest);
+    expect_number("largest frame", o.totals[VMD_TOTAL_LARGEST_FRAME], largest);
+}
+
+#endif
