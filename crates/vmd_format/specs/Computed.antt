@@ -101,3 +101,12 @@ ik-bytes c j e = c ∷ 0 ∷ replicate 18 j ++ (e ∷ [])
 
 abbrev pub ik-said : ℕ → Bool → IkState
 ik-said c b = record { name = c ∷ []; enabled = b }
+
+-- ---- a file of 336 bytes: this model name field and, in every section, one record at its frame
+
+abbrev pub one-each : List ℕ → ℕ → ℕ → ℕ → ℕ → ℕ → ℕ → List ℕ
+one-each n b m c l s p =
+    text ++ replicate 4 0 ++ n
+    ++ u1 ++ bone-bytes 65 0 b ++ u1 ++ morph-bytes 66 0 m ++ u1 ++ camera-bytes c 1
+    ++ u1 ++ light-bytes l ++ u1 ++ shadow-bytes s 2
+    ++ u1 ++ fours (p ∷ []) ++ (1 ∷ []) ++ u1 ++ ik-bytes 67 0 1

@@ -74,51 +74,47 @@ pub record Extreme (R : ℕ → ℕ → Type 0) (l : List ℕ) (n : ℕ) : Type 
   pub there : getD l place 0 ≡ n
   pub bounds : All (R n) l
 
--- what picks one of two numbers picks one of a list, number by number
-module _ (R : ℕ → ℕ → Type 0) (through : (n k j : ℕ) → R n k → R k j → R n j)
-    (pick : ℕ → ℕ → ℕ) (picks : (n k : ℕ) → ((pick n k ≡ n) × R n k) ⊎ ((pick n k ≡ k) × R k n))
+-- what picks the first of two numbers in an order picks the first of a list, number by number
+module _ (R : ℕ → ℕ → Type 0) (either : (n k : ℕ) → R n k ⊎ R k n) (through : (n k j : ℕ) → R n k → R k j → R n j)
+    (pick : ℕ → ℕ → ℕ) (left : (n k : ℕ) → R n k → pick n k ≡ n) (right : (n k : ℕ) → R k n → pick n k ≡ k)
     (v : ℕ → List ℕ → ℕ) (one : (n : ℕ) → v n [] ≡ n) (more : (n x : ℕ) (l : List ℕ) → v n (x ∷ l) ≡ pick n (v x l)) where
   all-through : (n k : ℕ) (l : List ℕ) → R n k → All (R k) l → All (R n) l
   all-through n k [] h a = tt
   all-through n k (x ∷ l) h a = (through n k x h (a .0), all-through n k l h (a .1))
 
   self : (n : ℕ) → R n n
-  self n = go (picks n n)
+  self n = go (either n n)
     where
-      go : ((pick n n ≡ n) × R n n) ⊎ ((pick n n ≡ n) × R n n) → R n n
-      go (inl h) = h .1
-      go (inr h) = h .1
+      go : R n n ⊎ R n n → R n n
+      go (inl h) = h
+      go (inr h) = h
 
   -- one number more: it is picked, or what was picked before
-  with-one : (n k : ℕ) (l : List ℕ) → Extreme R l k → ((pick n k ≡ n) × R n k) ⊎ ((pick n k ≡ k) × R k n) → Extreme R (n ∷ l) (pick n k)
-  with-one n k l e (inl h) = rw (h .0) record { place = 0; inside = omega arith; there = refl; bounds = (self n, all-through n k l (h .1) (e .bounds)) }
-  with-one n k l e (inr h) = rw (h .0) record { place = suc (e .place); inside = omega (arith, e .inside); there = e .there; bounds = (h .1, e .bounds) }
+  with-one : (n k : ℕ) (l : List ℕ) → Extreme R l k → R n k ⊎ R k n → Extreme R (n ∷ l) (pick n k)
+  with-one n k l e (inl h) = rw (left n k h) record { place = 0; inside = omega arith; there = refl; bounds = (self n, all-through n k l h (e .bounds)) }
+  with-one n k l e (inr h) = rw (right n k h) record { place = suc (e .place); inside = omega (arith, e .inside); there = e .there; bounds = (h, e .bounds) }
 
   picked : (n : ℕ) (l : List ℕ) → Extreme R (n ∷ l) (v n l)
   picked n [] = rw (one n) record { place = 0; inside = omega arith; there = refl; bounds = (self n, tt) }
-  picked n (x ∷ l) = rw (more n x l) (with-one n (v x l) (x ∷ l) (picked x l) (picks n (v x l)))
+  picked n (x ∷ l) = rw (more n x l) (with-one n (v x l) (x ∷ l) (picked x l) (either n (v x l)))
 
-min-picks : (n k : ℕ) → ((min n k ≡ n) × (n ≤ k)) ⊎ ((min n k ≡ k) × (k ≤ n))
-min-picks n k = go (decLe n k)
+ordered : (n k : ℕ) → (n ≤ k) ⊎ (k ≤ n)
+ordered n k = go (decLe n k)
   where
-    go : Dec (n ≤ k) → ((min n k ≡ n) × (n ≤ k)) ⊎ ((min n k ≡ k) × (k ≤ n))
-    go (yes h) = inl (omega arith, h)
-    go (no h) = inr (omega arith, omega arith)
-
-max-picks : (n k : ℕ) → ((max n k ≡ n) × (k ≤ n)) ⊎ ((max n k ≡ k) × (n ≤ k))
-max-picks n k = go (decLe k n)
-  where
-    go : Dec (k ≤ n) → ((max n k ≡ n) × (k ≤ n)) ⊎ ((max n k ≡ k) × (n ≤ k))
-    go (yes h) = inl (omega arith, h)
-    go (no h) = inr (omega arith, omega arith)
+    go : Dec (n ≤ k) → (n ≤ k) ⊎ (k ≤ n)
+    go (yes h) = inl h
+    go (no h) = inr (omega arith)
 
 smallest-is : (n : ℕ) (l : List ℕ) → Extreme (λ n k. n ≤ k) (n ∷ l) (smallest (n ∷ l))
 unfolding smallest least
-smallest-is n l = picked (λ n k. n ≤ k) (λ n k j h g. omega arith) min min-picks least (λ n. refl) least-min n l
+smallest-is n l =
+    picked (λ n k. n ≤ k) ordered (λ n k j h g. omega arith) min (λ n k h. omega arith) (λ n k h. omega arith) least (λ n. refl) least-min n l
 
 largest-is : (n : ℕ) (l : List ℕ) → Extreme (λ n k. k ≤ n) (n ∷ l) (largest (n ∷ l))
 unfolding largest
-largest-is n l = picked (λ n k. k ≤ n) (λ n k j h g. omega arith) max max-picks (λ n l. largest (n ∷ l)) (λ n. omega arith) (λ n x l. refl) n l
+largest-is n l =
+    picked (λ n k. k ≤ n) (λ n k. ordered k n) (λ n k j h g. omega arith) max (λ n k h. omega arith) (λ n k h. omega arith)
+    (λ n l. largest (n ∷ l)) (λ n. omega arith) (λ n x l. refl) n l
 
 -- ---- of takes
 

@@ -12,28 +12,24 @@ use Rattle.vmd_format.specs.Read.{lenient}
 use Rattle.vmd_format.specs.Take.{Take, read-take}
 use Rattle.vmd_format.specs.Opening.{Opening, open-file, smaller-of}
 use Rattle.vmd_format.specs.Join.{export-file, join-takes, join-files}
-use Rattle.vmd_format.specs.Computed.{computed, declines, bytes-of, text, start, fours, u0, u1, bone-bytes, bone-said, morph-bytes, morph-said, camera-bytes, camera-said, light-bytes, light-said, shadow-bytes, shadow-said, ik-bytes, ik-said}
+use Rattle.vmd_format.specs.Computed.{computed, declines, bytes-of, start, fours, u0, u1, bone-said, morph-said, camera-said, light-bytes, light-said, shadow-bytes, shadow-said, ik-said, one-each}
 
--- a file of 336 bytes: this model name field and, in every section, one record at this frame
-abbrev one-each : List ℕ → ℕ → List ℕ
-one-each n f =
-    text ++ replicate 4 0 ++ n
-    ++ u1 ++ bone-bytes 65 0 f ++ u1 ++ morph-bytes 66 0 f ++ u1 ++ camera-bytes f 1
-    ++ u1 ++ light-bytes f ++ u1 ++ shadow-bytes f 2
-    ++ u1 ++ fours (f ∷ []) ++ (1 ∷ []) ++ u1 ++ ik-bytes 67 0 1
+-- all its records at one frame
+abbrev all-at : List ℕ → ℕ → List ℕ
+all-at n f = one-each n f f f f f f
 
 abbrev property-said : ℕ → Property
 property-said f = record { frame = f; visible = true; ik-states = ik-said 67 true ∷ [] }
 
 -- two takes with names, and one whose name is empty: bytes after its first zero do not count
 abbrev first : List ℕ
-first = one-each (70 ∷ replicate 19 0) 1
+first = all-at (70 ∷ replicate 19 0) 1
 
 abbrev second : List ℕ
-second = one-each (83 ∷ 50 ∷ replicate 18 0) 2
+second = all-at (83 ∷ 50 ∷ replicate 18 0) 2
 
 abbrev nameless : List ℕ
-nameless = one-each (0 ∷ 88 ∷ replicate 18 0) 1
+nameless = all-at (0 ∷ 88 ∷ replicate 18 0) 1
 
 -- the take that a join says
 abbrev joined : List ℕ → List ℕ → Answer Take

@@ -10,7 +10,7 @@ use Rattle.vmd_format.specs.Take.{Take, read-take, same}
 use Rattle.vmd_format.specs.Opening.{record-count, Opening, joined-smallest, open-file}
 use Rattle.vmd_format.specs.Join.{export-file, join-files}
 use Rattle.vmd_format.specs.Names.{good}
-use Rattle.vmd_format.specs.Computed.{computed, declines, bytes-of, start, fours, u0, u1, bone-bytes, morph-bytes, camera-bytes, light-bytes, shadow-bytes}
+use Rattle.vmd_format.specs.Computed.{computed, declines, bytes-of, start, fours, u0, u1, bone-bytes, one-each}
 
 -- the file is refused with this number
 abbrev refuses : List ℕ → ℕ → Bool
@@ -137,20 +137,18 @@ pub any-record : T (
 unfolding computed
 any-record = tt
 
--- a file of one record in every section, at these frames
-abbrev one-each : ℕ → ℕ → ℕ → ℕ → ℕ → ℕ → List ℕ
-one-each b m c l s p =
-    start ++ u1 ++ bone-bytes 65 0 b ++ u1 ++ morph-bytes 66 0 m ++ u1 ++ camera-bytes c 1
-    ++ u1 ++ light-bytes l ++ u1 ++ shadow-bytes s 2 ++ u1 ++ fours (p ∷ []) ++ (1 ∷ []) ++ u0
+-- one record in every section, at these frames, and no model name
+abbrev six : ℕ → ℕ → ℕ → ℕ → ℕ → ℕ → List ℕ
+six b m c l s p = one-each (replicate 20 0) b m c l s p
 
 -- and whichever section it stands in
 pub frames-anywhere : T (
-    opens-with (one-each 2 9 8 7 6 5) 2 9
-    && opens-with (one-each 5 2 9 8 7 6) 2 9
-    && opens-with (one-each 6 5 2 9 8 7) 2 9
-    && opens-with (one-each 7 6 5 2 9 8) 2 9
-    && opens-with (one-each 8 7 6 5 2 9) 2 9
-    && opens-with (one-each 9 8 7 6 5 2) 2 9)
+    opens-with (six 2 9 8 7 6 5) 2 9
+    && opens-with (six 5 2 9 8 7 6) 2 9
+    && opens-with (six 6 5 2 9 8 7) 2 9
+    && opens-with (six 7 6 5 2 9 8) 2 9
+    && opens-with (six 8 7 6 5 2 9) 2 9
+    && opens-with (six 9 8 7 6 5 2) 2 9)
 unfolding computed
 frames-anywhere = tt
 
@@ -166,8 +164,8 @@ joins-with s t n = joined-opening (open-file lenient s 3) (open-file lenient t 3
 -- on either side, records in any one section count, and a file without records does not
 pub joined-anywhere : T (
     in-each (λ s. joins-with s (start ++ u0) 4) (frames (4 ∷ 8 ∷ []))
-    && in-each (λ s. joins-with s (one-each 6 6 6 6 6 6) 4) (frames (4 ∷ 8 ∷ []))
-    && in-each (λ s. joins-with s (one-each 3 3 3 3 3 3) 3) (frames (4 ∷ 8 ∷ []))
+    && in-each (λ s. joins-with s (six 6 6 6 6 6 6) 4) (frames (4 ∷ 8 ∷ []))
+    && in-each (λ s. joins-with s (six 3 3 3 3 3 3) 3) (frames (4 ∷ 8 ∷ []))
     && joins-with (start ++ u0) (start ++ u0) 0)
 unfolding computed
 joined-anywhere = tt
@@ -182,7 +180,7 @@ counts-records s n = counted (open-file lenient s 3) n
 
 pub records-counted : T (
     in-each (λ s. counts-records s 3) (frames (1 ∷ 1 ∷ 1 ∷ []))
-    && counts-records (one-each 1 1 1 1 1 1) 6
+    && counts-records (six 1 1 1 1 1 1) 6
     && counts-records (start ++ u0) 0)
 unfolding computed
 records-counted = tt

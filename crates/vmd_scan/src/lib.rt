@@ -588,7 +588,7 @@ fn all_frames(file: &[u8], sections: VmdSections) -> VmdFrames
 }
 
 // The records of all six sections.
-fn record_count(
+pub fn record_count(
     bones: u32,
     morphs: u32,
     cameras: u32,

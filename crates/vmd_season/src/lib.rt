@@ -91,12 +91,14 @@ fn figures_of(file: &[u8], a: VmdSections) -> VmdTakeFigures
 fn records_of(f: VmdTakeFigures) -> u64
     ensures { λ r. ⌜ r ≡ records-of (take-is f) ⌝ }
 {
-    f.bones as u64
-        + f.morphs as u64
-        + f.cameras as u64
-        + f.lights as u64
-        + f.self_shadows as u64
-        + f.properties as u64
+    vmd_scan::record_count(
+        f.bones,
+        f.morphs,
+        f.cameras,
+        f.lights,
+        f.self_shadows,
+        f.properties,
+    )
 }
 
 // ---- whether it fits
