@@ -185,7 +185,11 @@ void vmd_joined_model(const uint8_t *first, size_t first_len, const uint8_t *sec
  * and morphs are columns: a name's index in its table, a frame, and for a bone three, four and 64 values, for a morph one.
  */
 
-/* The place of the first byte that starts neither a good single byte nor a good pair; the length where all is good. */
+/*
+ * The place of a name's first byte, read left to right, that starts neither a good single byte nor a good pair; the length
+ * where all is good. Of a pair that is not good it is the first byte's place. Nothing past the byte after it is read. The
+ * builder answers 7 for a name whose place is below its length, where nothing that it tests before is turned down.
+ */
 size_t vmd_first_fault(const uint8_t *name, size_t name_len);
 
 /* Refusals: 5 to 12; 13 where no 64-bit length could hold the file. */

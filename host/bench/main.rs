@@ -21,6 +21,7 @@ mod measure;
 #[cfg(feature = "original")]
 mod original;
 mod split;
+mod tables;
 mod takes;
 
 /// What is measured of the original.
@@ -339,6 +340,7 @@ fn main() {
     };
     let (full, sizes) = if quick { (MIB, vec![KIB, MIB]) } else { (32 * MIB, vec![KIB, MIB, 32 * MIB, 256 * MIB]) };
     let split_sizes = if quick { &[MIB][..] } else { &[MIB, 4 * MIB, 16 * MIB, 32 * MIB] };
+    let table_names = if quick { 50_000 } else { 1_000_000 };
     match words {
         [] => {}
         [option, rest @ ..] if option == "--memory" => return memory_of(rest),
@@ -359,10 +361,14 @@ fn main() {
             println!("Measured by `./bench` on {}.", machine());
             return split::all_different(if quick { [30_000, 140_000] } else { [300_000, 1_400_000] });
         }
+        [option] if option == "--tables" => {
+            println!("Measured by `./bench` on {}.", machine());
+            return tables::table(table_names, full);
+        }
         _ => {
             eprintln!(
-                "bench: the options are --quick, which measures small takes, --split, --season, --names, --against LIBRARY and \
-                 --opening LIBRARY"
+                "bench: the options are --quick, which measures small takes, --split, --season, --tables, --names, --against \
+                 LIBRARY and --opening LIBRARY"
             );
             std::process::exit(2);
         }
@@ -382,5 +388,6 @@ fn main() {
     growth(&sizes, &other);
     split::table(split_sizes, &other);
     split::season(full, &other);
+    tables::table(table_names, full);
     memory(full);
 }

@@ -66,7 +66,7 @@ impl Names {
     }
 
     /// Name `n` of a table.
-    fn bytes(self, n: usize) -> Vec<u8> {
+    pub fn bytes(self, n: usize) -> Vec<u8> {
         (0..self.len(n)).map(|k| b'A' + ((n >> (2 * k)) % 26) as u8).collect()
     }
 

@@ -211,8 +211,14 @@ pub fn joined_model<'f>(first: &'f [u8], second: &'f [u8]) -> &'f [u8] {
     part_of(if part[0] == 0 { first } else { second }, [part[1], part[2]])
 }
 
-/// The place of the first byte of a name that starts neither a good single byte nor a good pair of Shift_JIS; the length
-/// where all is good.
+/// The place of a name's first byte, read left to right, that starts neither a good single byte nor a good pair of Shift_JIS;
+/// the length where all is good. A name whose place is below its length is one that [`Parts::build`](crate::Parts::build) answers
+/// 7 for, where nothing that it tests before is turned down.
+///
+/// ```
+/// assert_eq!(vmd::first_fault(b"arm"), 3);
+/// assert_eq!(vmd::first_fault(b"\x83\x41\x83\x7F"), 2); // a good pair, and a lead without its trail
+/// ```
 pub fn first_fault(name: &[u8]) -> usize {
     // SAFETY: a slice.
     unsafe { header::vmd_first_fault(name.as_ptr(), name.len()) }

@@ -352,8 +352,27 @@ fn parts_that_are_refused() {
     assert_eq!(refused(Parts { self_shadow_frames: &[3; 9], ..good }), 9);
     assert_eq!(refused(Parts { bone_frames: &[7, 8], ..good }), 10);
     assert_eq!(refused(Parts { bone_name_indices: &[1], ..good }), 12);
-    assert_eq!(vmd::first_fault(b"\x83\x41\xA0"), 2);
-    assert_eq!(vmd::first_fault(b"arm"), 3);
+}
+
+/// A name is refused where its first fault is before its end.
+#[test]
+fn the_first_fault_of_a_name() {
+    let places: [(&[u8], usize); 9] = [
+        (b"", 0),
+        (b"arm", 3),
+        (b"\x8D\xB6\x98r", 4), // the second pair's trail is a letter
+        (b"\x83\xA0", 2),      // the trail could start nothing
+        (b"\x83\x41\xA0\xA0", 2),
+        (b"a\x83\x7Fb", 1), // the lead's place, not the other byte's
+        (b"ab\x83", 2),     // not the length
+        (b"\x81\x81\x40", 3),
+        (b"\xFD\xFE\xFF", 0),
+    ];
+    for (name, place) in places {
+        assert_eq!(vmd::first_fault(name), place, "{name:?}");
+        let number = Parts { model_name: name, ..Default::default() }.size().map_or_else(|refusal| refusal.number(), |_| 0);
+        assert_eq!(number, if place < name.len() { 7 } else { 0 }, "{name:?}");
+    }
 }
 
 // ---- smallest and largest frame

@@ -858,6 +858,75 @@ static void names_of_all_bytes(void)
     }
 }
 
+/* ---- nothing after the first fault is read */
+
+/*
+ * The test leaves a name at its first fault: the length says that more follows than that byte and the next, which may be a
+ * trail, and none of it can be read.
+ */
+static void rest_of_a_name_unread(void)
+{
+    static const struct {
+        const char *bytes;
+        size_t len, place;
+    } rows[] = {
+        {"\xA0\x40", 2, 0}, {"\xFD\xFD", 2, 0}, {"A\xFF\x40", 3, 1}, {"\x83\x7F", 2, 0}, {"\x83\x41\xA0\xA0", 4, 2},
+        {"ab\x83\x41\xFC\xFD", 6, 4},
+        {"12345678\x81\x81\x81\x3F", 12, 10},
+    };
+    size_t k;
+    for (k = 0; k < sizeof rows / sizeof *rows; k++) {
+        trial("bad name %zu, and bytes after it that cannot be read", k);
+        expect_number("first_fault", vmd_first_fault(lend(&lent_out, rows[k].bytes, rows[k].len), rows[k].len + 65536),
+                      rows[k].place);
+    }
+}
+
+/*
+ * The builder reads nothing after the first name that is turned down: not the names after it, not the other table's, no
+ * record and no column. Lengths and all ends are looked at first, and property frames, of which there are none here.
+ */
+static void parts_after_a_bad_name_unread(void)
+{
+    enum { MODEL = 0, BONES = 1, MORPHS = 3 };
+    static const struct {
+        uint32_t number;
+        int which; /* the names that a byte is put into */
+        size_t at;
+        uint8_t byte;
+        size_t readable[4]; /* of the model name, the bone names and the morph names, by which */
+    } rows[] = {
+        {7, MODEL, 0, 0xA0, {6, 0, 0, 0}},    {6, MODEL, 5, 0x00, {6, 0, 0, 0}},    {7, BONES, 0, 0xFD, {6, 6, 0, 0}},
+        {6, BONES, 3, 0x00, {6, 6, 0, 0}},    {7, BONES, 5, 0x83, {6, 6, 0, 0}},    {7, BONES, 10, 0xA0, {6, 15, 0, 0}},
+        {7, BONES, 18, 0xFC, {6, 19, 0, 0}},  {7, MORPHS, 0, 0xFF, {6, 19, 0, 5}},  {6, MORPHS, 9, 0x00, {6, 19, 0, 10}},
+        {7, MORPHS, 9, 0xE0, {6, 19, 0, 10}},
+    };
+    static const uint32_t bone_ends[] = {6, 10, 15, 19}, morph_ends[] = {5, 10};
+    size_t row;
+    for (row = 0; row < sizeof rows / sizeof *rows; row++) {
+        char names[4][24] = {"dancer", "centerleftrightknee", "", "smileblink"};
+        struct slice s[SLICES] = {
+            {names[0], 6, 1}, {names[1], 19, 1}, {bone_ends, 4, 4}, {names[3], 10, 1}, {morph_ends, 2, 4},
+            {NULL, 2 * 61, 1}, {NULL, 2 * 28, 1}, {NULL, 3 * 9, 1}, {NULL, 0, 1},
+            {NULL, 4, 4}, {NULL, 4, 4}, {NULL, 12, 4}, {NULL, 16, 4}, {NULL, 256, 1},
+            {NULL, 3, 4}, {NULL, 3, 4}, {NULL, 3, 4},
+        };
+        const void *p[SLICES];
+        uint64_t *slot = lend_unwritten(&lent_slot, 8);
+        int k;
+        trial("byte %zu of names %d is 0x%02X, and what is after that name cannot be read", rows[row].at, rows[row].which,
+              rows[row].byte);
+        names[rows[row].which][rows[row].at] = (char)rows[row].byte;
+        for (k = 0; k < SLICES; k++) {
+            size_t n = k == 2 || k == 4 ? s[k].len * s[k].size : k < 4 ? rows[row].readable[k] : 0;
+            p[k] = n > 0 ? lend(&lent[k], s[k].at, n) : end_of(&lent[k]);
+        }
+        expect_number("build_size", vmd_build_size(PARTS, slot), rows[row].number);
+        expect_number("build", vmd_build_animation_from_parts(PARTS, end_of(&lent_out), 65536, slot), rows[row].number);
+        expect_lent_unwritten("slot", &lent_slot);
+    }
+}
+
 int main(void)
 {
     built_from_nothing();
@@ -872,5 +941,7 @@ int main(void)
     index_without_names();
     names_told_in_words();
     names_of_all_bytes();
+    rest_of_a_name_unread();
+    parts_after_a_bad_name_unread();
     return finished("builder");
 }

@@ -10,8 +10,8 @@ use lib.Ieee.{Float, binary32, toBits}
 use Rattle.vmd_format.specs.Refusal.{parts-not-whole, columns-disagree}
 use Rattle.vmd_format.specs.Layout.{Layout}
 use Rattle.vmd_format.specs.PlacesLaws.{table-length}
-use Rattle.vmd_format.specs.Parts.{NameTable, Parts, records-of, frames, properties-of, upto, take-of-parts, Check, passes, fails, _next_, need, each, table-right, is-got, whole-parts, columns-check, counts-check, bone-check, morph-check, parts-check}
-use Rattle.vmd_format.specs.PartsLaws.{need-passes}
+use Rattle.vmd_format.specs.Parts.{NameTable, Parts, records-of, frames, properties-of, upto, take-of-parts, Check, passes, _next_, need, each, table-right, is-got, whole-parts, columns-check, counts-check, bone-check, morph-check, parts-check}
+use Rattle.vmd_format.specs.PartsLaws.{need-passes, next-assoc}
 use Rattle.vmd_format.specs.SizedLaws.{Sized, camera-sized, light-sized, self-shadow-sized}
 use Rattle.vmd_check_columns.specs.Meaning.{bits}
 use Rattle.vmd_check_columns.specs.Stages.{bone-columns, morph-columns, columns-right, counts-right, bone-right, morph-right}
@@ -44,11 +44,6 @@ columns-hold n f t r i m g w e =
     (b .0, b .1, morphs-hold m g w (a .1))
 
 -- ---- all checks in their order
-
-next-assoc : (a b c : Check) → ((a next b) next c) ≡ (a next (b next c))
-unfolding _next_
-next-assoc passes b c = refl
-next-assoc (fails k) b c = refl
 
 pub whole-same : (p : Parts)
     → need (all-whole (p .bone-names) (p .morph-names) (p .cameras) (p .lights) (p .self-shadows) (p .properties)) parts-not-whole ≡ whole-parts p

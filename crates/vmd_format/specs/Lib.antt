@@ -39,5 +39,6 @@ pub mod Joins
 pub mod Built
 pub mod PartsLaws
 pub mod NamesLaws
+pub mod FaultLaws
 pub mod Lengths
 pub mod ExportLaws

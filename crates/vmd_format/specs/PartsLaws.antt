@@ -76,6 +76,13 @@ unfolding upto
 upto-below m i zero h = tt
 upto-below m i (suc n) h = (omega arith, upto-below m (suc i) n (omega arith))
 
+-- ---- one check after another
+
+pub next-assoc : (a b c : Check) → ((a next b) next c) ≡ (a next b next c)
+unfolding _next_
+next-assoc passes b c = refl
+next-assoc (fails k) b c = refl
+
 -- ---- what a check that passes gives
 
 pub next-passes : {c d : Check} → (c next d) ≡ passes → (c ≡ passes) × (d ≡ passes)
@@ -154,7 +161,7 @@ counts-pass p e =
 -- ---- names
 
 -- no zero byte
-before-zero-all : (s : List ℕ) → length (before-zero s) ≡ length s → before-zero s ≡ s
+pub before-zero-all : (s : List ℕ) → length (before-zero s) ≡ length s → before-zero s ≡ s
 unfolding before-zero
 before-zero-all [] h = refl
 before-zero-all (zero ∷ s) h = absurd (omega arith)

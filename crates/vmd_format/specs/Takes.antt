@@ -9,7 +9,7 @@ use Rattle.vmd_format.specs.Read.{lenient}
 use Rattle.vmd_format.specs.Take.{Take, read-take, same}
 use Rattle.vmd_format.specs.Opening.{record-count, Opening, joined-smallest, open-file}
 use Rattle.vmd_format.specs.Join.{export-file, join-files}
-use Rattle.vmd_format.specs.Names.{good}
+use Rattle.vmd_format.specs.Names.{fault, good}
 use Rattle.vmd_format.specs.Computed.{computed, declines, bytes-of, start, fours, u0, u1, bone-bytes, one-each}
 
 -- the file is refused with this number
@@ -88,6 +88,23 @@ pub name-edges : T (
     && not (good (0x41 ∷ 0x83 ∷ 0x41 ∷ 0x83 ∷ [])))
 unfolding computed
 name-edges = tt
+
+-- the place of the first fault: a pair's is that of its lead, of two the first counts, and where all is good it is the length
+pub fault-places : T (
+    eqb (fault []) 0
+    && eqb (fault (0x41 ∷ 0x42 ∷ 0x43 ∷ [])) 3
+    && eqb (fault (0x83 ∷ 0x41 ∷ 0xB1 ∷ [])) 3
+    && eqb (fault (0x81 ∷ 0x81 ∷ 0x40 ∷ [])) 3
+    && eqb (fault (0x81 ∷ 0x81 ∷ 0x20 ∷ 0xFD ∷ [])) 3
+    && eqb (fault (0x83 ∷ 0xA0 ∷ 0x83 ∷ [])) 2
+    && eqb (fault (0xA0 ∷ 0x41 ∷ [])) 0
+    && eqb (fault (0x41 ∷ 0xA0 ∷ 0x41 ∷ 0xFD ∷ [])) 1
+    && eqb (fault (0x41 ∷ 0x83 ∷ 0x7F ∷ 0x41 ∷ [])) 1
+    && eqb (fault (0x83 ∷ 0x41 ∷ 0x83 ∷ 0xFD ∷ [])) 2
+    && eqb (fault (0x81 ∷ 0x40 ∷ 0x81 ∷ [])) 2
+    && eqb (fault (0x83 ∷ 0x83 ∷ 0x83 ∷ 0x83 ∷ 0x83 ∷ [])) 4)
+unfolding computed
+fault-places = tt
 
 -- ---- the smallest and the largest frame
 

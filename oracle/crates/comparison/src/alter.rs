@@ -39,6 +39,7 @@ pub enum Alter {
     BuildByte,
     BuildInRefusal,
     NameTest,
+    NamePlace,
     SplitSizes,
     SplitRefusal,
     SplitInRefusal,
@@ -65,7 +66,7 @@ pub enum Alter {
     SeasonNone,
 }
 
-pub const ALTERATIONS: [Alter; 57] = [
+pub const ALTERATIONS: [Alter; 58] = [
     Alter::OpeningRefusal,
     Alter::OpeningCount,
     Alter::OpeningPlace,
@@ -99,6 +100,7 @@ pub const ALTERATIONS: [Alter; 57] = [
     Alter::BuildByte,
     Alter::BuildInRefusal,
     Alter::NameTest,
+    Alter::NamePlace,
     Alter::SplitSizes,
     Alter::SplitRefusal,
     Alter::SplitInRefusal,

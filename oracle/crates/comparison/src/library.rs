@@ -3,6 +3,7 @@
 use crate::alter::{altered, Alter};
 use crate::header;
 use crate::header::indices::{VMD_TOTAL_IK_STATES, VMD_TOTAL_LARGEST_FRAME, VMD_TOTAL_SMALLEST_FRAME};
+use oracle::names::is_lead;
 use oracle::original;
 use oracle::parts::{Columns, Parts};
 
@@ -296,6 +297,9 @@ pub fn first_fault(name: &[u8]) -> usize {
     let place = unsafe { header::vmd_first_fault(pointer(name), name.len()) };
     if altered(Alter::NameTest) && name.contains(&0x7f) {
         return name.len();
+    }
+    if altered(Alter::NamePlace) && place + 1 < name.len() && is_lead(name[place]) {
+        return place + 1;
     }
     place
 }

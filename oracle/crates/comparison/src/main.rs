@@ -78,6 +78,7 @@ fn print_names(label: &str, tally: &name_test::NameTally) {
         tally.pairs_other, tally.pairs_alike
     );
     println!("    a byte order mark: the original answers otherwise for {}, alike for {}", tally.marks_other, tally.marks_alike);
+    println!("    the place as the decoder has it: {}, of these {} before the end", tally.places, tally.faults);
 }
 
 fn print_lights(check: &files::FileCheck) {

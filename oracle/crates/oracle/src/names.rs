@@ -1,7 +1,7 @@
 //! Name bytes: document 01's test, the domain in which it agrees with the original, and names to try.
 
 use crate::random::Random;
-use encoding_rs::SHIFT_JIS;
+use encoding_rs::{DecoderResult, SHIFT_JIS};
 use std::sync::OnceLock;
 
 pub const BYTE_ORDER_MARKS: [&[u8]; 3] = [&[0xef, 0xbb, 0xbf], &[0xfe, 0xff], &[0xff, 0xfe]];
@@ -67,6 +67,24 @@ fn pairs_of(name: &[u8]) -> impl Iterator<Item = (u8, u8)> + '_ {
     })
 }
 
+/// Where the original's decoding library stops, asked without its look for a byte order mark: where the first sequence that it
+/// finds malformed begins, or the length.
+pub fn decoder_stops(name: &[u8]) -> usize {
+    let mut decoder = SHIFT_JIS.new_decoder_without_bom_handling();
+    let mut text = vec![0; decoder.max_utf8_buffer_length_without_replacement(name.len()).expect("a short name")];
+    let (result, read, _) = decoder.decode_to_utf8_without_replacement(name, &mut text, true);
+    match result {
+        DecoderResult::InputEmpty => name.len(),
+        DecoderResult::Malformed(bytes, after) => read - usize::from(bytes) - usize::from(after),
+        DecoderResult::OutputFull => unreachable!("the buffer is as long as the decoder asks"),
+    }
+}
+
+/// Whether every pair before the first fault has a character.
+pub fn pairs_have_characters(name: &[u8]) -> bool {
+    pairs_of(name).all(|(a, b)| has_character(a, b))
+}
+
 /// Why a name lies outside the domain that document 01 sets.
 #[derive(Clone, Copy, PartialEq, Eq, PartialOrd, Ord, Debug)]
 pub enum Outside {
@@ -77,7 +95,7 @@ pub enum Outside {
 pub fn outside_domain(name: &[u8]) -> Option<Outside> {
     if BYTE_ORDER_MARKS.iter().any(|mark| name.starts_with(mark)) {
         Some(Outside::ByteOrderMark)
-    } else if pairs_of(name).any(|(a, b)| !has_character(a, b)) {
+    } else if !pairs_have_characters(name) {
         Some(Outside::PairWithoutCharacter)
     } else {
         None
