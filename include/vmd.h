@@ -187,8 +187,8 @@ void vmd_joined_model(const uint8_t *first, size_t first_len, const uint8_t *sec
 
 /*
  * The place of a name's first byte, read left to right, that starts neither a good single byte nor a good pair; the length
- * where all is good. Of a pair that is not good it is the first byte's place. Nothing past the byte after it is read. The
- * builder answers 7 for a name whose place is below its length, where nothing that it tests before is turned down.
+ * where all is good. Of a pair that is not good it is the first byte's place. The builder answers 7 for a name whose place is
+ * below its length, where nothing that it tests before is turned down.
  */
 size_t vmd_first_fault(const uint8_t *name, size_t name_len);
 

@@ -912,18 +912,22 @@ static void parts_after_a_bad_name_unread(void)
             {NULL, 3, 4}, {NULL, 3, 4}, {NULL, 3, 4},
         };
         const void *p[SLICES];
+        size_t n[SLICES]; /* how many bytes of each can be read */
         uint64_t *slot = lend_unwritten(&lent_slot, 8);
         int k;
         trial("byte %zu of names %d is 0x%02X, and what is after that name cannot be read", rows[row].at, rows[row].which,
               rows[row].byte);
         names[rows[row].which][rows[row].at] = (char)rows[row].byte;
         for (k = 0; k < SLICES; k++) {
-            size_t n = k == 2 || k == 4 ? s[k].len * s[k].size : k < 4 ? rows[row].readable[k] : 0;
-            p[k] = n > 0 ? lend(&lent[k], s[k].at, n) : end_of(&lent[k]);
+            n[k] = k == 2 || k == 4 ? s[k].len * s[k].size : k < 4 ? rows[row].readable[k] : 0;
+            p[k] = n[k] > 0 ? lend(&lent[k], s[k].at, n[k]) : end_of(&lent[k]);
         }
         expect_number("build_size", vmd_build_size(PARTS, slot), rows[row].number);
         expect_number("build", vmd_build_animation_from_parts(PARTS, end_of(&lent_out), 65536, slot), rows[row].number);
         expect_lent_unwritten("slot", &lent_slot);
+        for (k = 0; k < SLICES; k++)
+            if (n[k] > 0)
+                expect_lent("a part", &lent[k], s[k].at, n[k]);
     }
 }
 

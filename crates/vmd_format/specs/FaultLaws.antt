@@ -18,7 +18,7 @@ use Rattle.vmd_format.specs.Records.{IkState}
 use Rattle.vmd_format.specs.Names.{between, single, lead, trail, pair, unit, fault, good}
 use Rattle.vmd_format.specs.NamesLaws.{unit-end, unit-single, unit-cut, unit-two, fault-none, fault-unit}
 use Rattle.vmd_format.specs.Parts.{Parts, names-of, Check, passes, fails, _next_, need, each, whole-parts, name-check, ik-check, parts-check}
-use Rattle.vmd_format.specs.PartsLaws.{next-assoc, before-zero-all}
+use Rattle.vmd_format.specs.PartsLaws.{next-assoc, each-mapped, before-zero-all}
 
 -- ---- the place
 
@@ -53,17 +53,17 @@ pair-single a b e = go (between 129 159 a) (between 224 252 a) refl refl (and-eq
     go false true p q r = let h = between-true 224 252 a q in rw (lt-leb a 128 (omega arith), lt-leb a 223 (omega arith), le-leb 161 a (omega arith))
     go false false p q r = let z : _≡_ {A = ℕ} 0 1 = cc in absurd (omega arith)
 
+unit-pair : (a b : ℕ) (s : List ℕ) → pair a b ≡ true → unit (a ∷ b ∷ s) ≡ 2
+unit-pair a b s h = rw h at (unit-two (a ∷ b ∷ s) 0 (omega arith) (pair-single a b h))
+
+fault-past : (n : ℕ) (s : List ℕ) → unit s ≡ suc n → fault s ≡ suc n + fault (drop (suc n) s)
+fault-past n s e = rw e at (fault-unit s (rw e (omega arith)))
+
 fault-single : (a : ℕ) (s : List ℕ) → single a ≡ true → fault (a ∷ s) ≡ suc (fault s)
-fault-single a s h =
-    let e = unit-single (a ∷ s) 0 (omega arith) h in
-    let f : fault (a ∷ s) ≡ 1 + fault s = rw e at (fault-unit (a ∷ s) (rw e (omega arith))) in
-    omega arith
+fault-single a s h = omega (arith, fault-past 0 (a ∷ s) (unit-single (a ∷ s) 0 (omega arith) h))
 
 fault-pair : (a b : ℕ) (s : List ℕ) → pair a b ≡ true → fault (a ∷ b ∷ s) ≡ suc (suc (fault s))
-fault-pair a b s h =
-    let e : unit (a ∷ b ∷ s) ≡ 2 = rw h at (unit-two (a ∷ b ∷ s) 0 (omega arith) (pair-single a b h)) in
-    let f : fault (a ∷ b ∷ s) ≡ 2 + fault s = rw e at (fault-unit (a ∷ b ∷ s) (rw e (omega arith))) in
-    omega arith
+fault-pair a b s h = omega (arith, fault-past 1 (a ∷ b ∷ s) (unit-pair a b s h))
 
 -- what stands at the front
 front : (s : List ℕ) → Starts s ⊎ (unit s ≡ 0)
@@ -81,7 +81,7 @@ front (a ∷ s) = go s (single a) refl
 
 starts-unit : {s : List ℕ} → Starts s → 0 < unit s
 starts-unit (a-single {a} {s} h) = rw (unit-single (a ∷ s) 0 (omega arith) h) (omega arith)
-starts-unit (a-pair {a} {b} {s} h) = rw (unit-two (a ∷ b ∷ s) 0 (omega arith) (pair-single a b h), h) (omega arith)
+starts-unit (a-pair {a} {b} {s} h) = rw (unit-pair a b s h) (omega arith)
 
 none-starts : (s : List ℕ) → (Starts s → ⊥) → unit s ≡ 0
 none-starts s h = go (front s)
@@ -149,14 +149,13 @@ not-good s = (
 -- 7 is given for a name, of the model or of a table, just where its fault is before its end
 pub name-faulty : (width : ℕ) (s : List ℕ) → (name-check width s ≡ fails name-not-good) ↔ ((length s ≤ width) × (before-zero s ≡ s) × (fault s < length s))
 unfolding name-check need _next_
-name-faulty width s = (go (leb (length s) width) (eqb (length (before-zero s)) (length s)) (good s) refl refl refl, back)
+name-faulty width s = (go (leb (length s) width && eqb (length (before-zero s)) (length s)) (good s) refl refl, back)
   where
-    go : (x y z : Bool) → leb (length s) width ≡ x → eqb (length (before-zero s)) (length s) ≡ y → good s ≡ z
-        → (need (x && y) name-unfit next need z name-not-good) ≡ fails name-not-good → (length s ≤ width) × (before-zero s ≡ s) × (fault s < length s)
-    go true true false e f g h = (leb-true _ _ e, before-zero-all s (eqb-true _ _ f), not-good s .0 g)
-    go true true true e f g h = let z : _≡_ {A = ℕ} 0 1 = cc in absurd (omega arith)
-    go true false z e f g h = let z : _≡_ {A = ℕ} 0 1 = cc in absurd (omega arith)
-    go false y z e f g h = let z : _≡_ {A = ℕ} 0 1 = cc in absurd (omega arith)
+    go : (x y : Bool) → (leb (length s) width && eqb (length (before-zero s)) (length s)) ≡ x → good s ≡ y
+        → (need x name-unfit next need y name-not-good) ≡ fails name-not-good → (length s ≤ width) × (before-zero s ≡ s) × (fault s < length s)
+    go true false e g h = let p = and-eq-true-iff _ _ .0 e in (leb-true _ _ (p .0), before-zero-all s (eqb-true _ _ (p .1)), not-good s .0 g)
+    go true true e g h = let z : _≡_ {A = ℕ} 0 1 = cc in absurd (omega arith)
+    go false y e g h = let z : _≡_ {A = ℕ} 0 1 = cc in absurd (omega arith)
 
     back : (length s ≤ width) × (before-zero s ≡ s) × (fault s < length s) → name-check width s ≡ fails name-not-good
     back (a, b, c) = rw (le-leb (length s) width a, b, eq-eqb (length s) (length s) refl, not-good s .1 c)
@@ -190,11 +189,6 @@ module _ {A : Type 0} (f : A → Check) where
   unfolding each _next_
   each-decided k [] m a h e = rw e
   each-decided k (b ∷ l) m a h e = rw (h .0) (each-decided k l m a (h .1) e)
-
-each-mapped : {A B : Type 0} (f : B → Check) (g : A → B) (l : List A) → each f (map g l) ≡ each (λ a. f (g a)) l
-unfolding each
-each-mapped f g [] = refl
-each-mapped f g (a ∷ l) = ap (λ c. f (g a) next c) (each-mapped f g l)
 
 in-turn : (p : Parts)
     → each field-check (tested-names p) ≡ (name-check 20 (p .model) next each (name-check 15) (names-of (p .bone-names)) next each (name-check 15) (names-of (p .morph-names)))

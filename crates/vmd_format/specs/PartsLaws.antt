@@ -83,6 +83,11 @@ unfolding _next_
 next-assoc passes b c = refl
 next-assoc (fails k) b c = refl
 
+pub each-mapped : {A B : Type 0} (f : B → Check) (g : A → B) (l : List A) → each f (map g l) ≡ each (λ a. f (g a)) l
+unfolding each
+each-mapped f g [] = refl
+each-mapped f g (a ∷ l) = ap (λ c. f (g a) next c) (each-mapped f g l)
+
 -- ---- what a check that passes gives
 
 pub next-passes : {c d : Check} → (c next d) ≡ passes → (c ≡ passes) × (d ≡ passes)

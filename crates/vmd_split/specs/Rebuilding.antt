@@ -24,7 +24,7 @@ use Rattle.vmd_format.specs.SavingLaws.{Accepted, well-formed, export-is}
 use Rattle.vmd_format.specs.RefusalLaws.{Among, here, there}
 use Rattle.vmd_format.specs.Names.{good}
 use Rattle.vmd_format.specs.Parts.{names-of, take-of-parts, upto, Check, passes, fails, _next_, need, each, no-bytes-over, is-got, whole-parts, name-check, finite, all-finite, camera-check, light-check, self-shadow-check, ik-check, property-check, columns-check, counts-check, bone-check, morph-check, parts-check, built, build}
-use Rattle.vmd_format.specs.PartsLaws.{all-map, next-passes, need-passes, each-passes, build-given}
+use Rattle.vmd_format.specs.PartsLaws.{all-map, each-mapped, next-passes, need-passes, each-passes, build-given}
 use Rattle.vmd_keys.specs.Names.{distinct, bone-names-of, morph-names-of}
 use Rattle.vmd_tables.specs.Tables.{name-table, name-indices}
 use Rattle.vmd_count.specs.DistinctLaws.{all-then, all-distinct}
@@ -66,15 +66,10 @@ unfolding each
 each-same f g [] h = refl
 each-same f g (a ∷ l) h = let e = h .0 in let r = each-same f g l (h .1) in λ i. e i next r i
 
-each-map : {A : Type 0} (f : A → Check) (l : List A) → each f l ≡ each (λ c. c) (map f l)
-unfolding each
-each-map f [] = refl
-each-map f (a ∷ l) = ap (λ r. f a next r) (each-map f l)
-
 -- a check of each number is a check of each value
 each-numbered : {A : Type 0} (f : ℕ → Check) (g : A → Check) (rest : List A)
     → ((l : List A) (a : A) (m : List A) → rest ≡ l ++ (a ∷ m) → f (length l) ≡ g a) → each f (upto 0 (length rest)) ≡ each g rest
-each-numbered f g rest h = each-map f (upto 0 (length rest)) ∙ ap (each (λ c. c)) (numbered f g rest h) ∙ sym (each-map g rest)
+each-numbered f g rest h = sym (each-mapped (λ c. c) f (upto 0 (length rest))) ∙ ap (each (λ c. c)) (numbered f g rest h) ∙ each-mapped (λ c. c) g rest
 
 need-true : (b : Bool) (k : Refusal) → b ≡ true → need b k ≡ passes
 unfolding need
