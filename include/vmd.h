@@ -1,6 +1,10 @@
 /*
  * VMD takes (MikuMikuDance motion files): read, saved, joined, built from parts and split into them; figures over many takes.
  *
+ * Files of both editions are read by every call that takes a file. The newer begin with "Vocaloid Motion Data 0002" and have
+ * a model name of 20 bytes, the older with "Vocaloid Motion Data file" and one of 10; after the name all is the same. Places
+ * are positions in the file as it is. What is written is of the newer edition, but for vmd_export_older_animation.
+ *
  * The functions are those of the proved library, built by 'rt staticlib vmd_c'. They allocate nothing, keep no state, and
  * can be called from any thread.
  *
@@ -29,20 +33,21 @@ extern "C" {
 
 enum vmd_refusal {
     VMD_OK = 0,
-    VMD_ENDS_EARLY = 1,         /* the file ends early */
-    VMD_MAGIC_DIFFERS = 2,      /* not a VMD file */
-    VMD_SCRATCH_TOO_SHORT = 3,  /* fewer scratch places than property frames */
-    VMD_OUTSIDE = 4,            /* record or IK number at or above the count, or its place outside the file */
-    VMD_PARTS_NOT_WHOLE = 5,    /* name table ends wrong, records not whole, properties cut or with bytes over */
-    VMD_NAME_UNFIT = 6,         /* model name over 20 bytes, table name over 15, or a zero byte in one */
-    VMD_NAME_NOT_GOOD = 7,      /* name bytes not good Shift_JIS */
-    VMD_NOT_FINITE = 8,         /* camera, light, bone or morph float not finite */
-    VMD_SELF_SHADOW_UNFIT = 9,  /* self-shadow distance not finite, or mode above 2 */
-    VMD_COLUMNS_DISAGREE = 10,  /* bone or morph column lengths disagree */
-    VMD_COUNT_TOO_LARGE = 11,   /* a section count above 4,294,967,295 */
-    VMD_NAME_INDEX = 12,        /* name index at or above the table's length */
-    VMD_OUTPUT_TOO_SHORT = 13,  /* output shorter than the file to be written */
-    VMD_PARTS_DO_NOT_FIT = 14   /* a buffer for parts is too short, or a name table passes 4,294,967,295 bytes */
+    VMD_ENDS_EARLY = 1,          /* the file ends early */
+    VMD_MAGIC_DIFFERS = 2,       /* not a VMD file */
+    VMD_SCRATCH_TOO_SHORT = 3,   /* fewer scratch places than property frames */
+    VMD_OUTSIDE = 4,             /* record or IK number at or above the count, or its place outside the file */
+    VMD_PARTS_NOT_WHOLE = 5,     /* name table ends wrong, records not whole, properties cut or with bytes over */
+    VMD_NAME_UNFIT = 6,          /* model name over 20 bytes, table name over 15, or a zero byte in one */
+    VMD_NAME_NOT_GOOD = 7,       /* name bytes not good Shift_JIS */
+    VMD_NOT_FINITE = 8,          /* camera, light, bone or morph float not finite */
+    VMD_SELF_SHADOW_UNFIT = 9,   /* self-shadow distance not finite, or mode above 2 */
+    VMD_COLUMNS_DISAGREE = 10,   /* bone or morph column lengths disagree */
+    VMD_COUNT_TOO_LARGE = 11,    /* a section count above 4,294,967,295 */
+    VMD_NAME_INDEX = 12,         /* name index at or above the table's length */
+    VMD_OUTPUT_TOO_SHORT = 13,   /* output shorter than the file to be written */
+    VMD_PARTS_DO_NOT_FIT = 14,   /* a buffer for parts is too short, or a name table passes 4,294,967,295 bytes */
+    VMD_MODEL_NAME_TOO_LONG = 15 /* the model name is over 10 bytes, which the older edition cannot hold */
 };
 
 /* Bytes of each record in a file. */
@@ -166,6 +171,13 @@ void vmd_camera_interpolation(const uint8_t *file, size_t file_len, const uint32
 uint32_t vmd_export_size(const uint8_t *file, size_t file_len, uint64_t *size);
 /* Refusals: 1, 2, 13. */
 uint32_t vmd_export_animation(const uint8_t *file, size_t file_len, uint8_t *out, size_t out_len, uint64_t *written);
+/*
+ * The same in the older edition: 10 bytes fewer, from the bone count on those of the export. A file of the older edition is
+ * never refused with 15. Refusals: 1, 2, 15; 13 where no 64-bit length could hold the file.
+ */
+uint32_t vmd_export_older_size(const uint8_t *file, size_t file_len, uint64_t *size);
+/* Refusals: 1, 2, 15, 13. */
+uint32_t vmd_export_older_animation(const uint8_t *file, size_t file_len, uint8_t *out, size_t out_len, uint64_t *written);
 /* Refusals: those of the first file, of the second, 11; 13 where no 64-bit length could hold the file. */
 uint32_t vmd_join_size(const uint8_t *first, size_t first_len, const uint8_t *second, size_t second_len, uint64_t *size);
 /* Every section is the first file's records, then the second's. Refusals: those of the first file, of the second, 11, 13. */

@@ -2,8 +2,8 @@
 # Runs the proved library and the original Rust on the same inputs and compares every result. It passes when its last line
 # says 0 differences.
 #
-#   oracle/compare.sh N SEED [SOURCES]      N files and N part sets, N / 10 files whose names repeat, joins and
-#                                           names, beside the fixed inputs
+#   oracle/compare.sh N SEED [SOURCES]      N files and N part sets, N / 5 files of the older edition, N / 10 files whose
+#                                           names repeat, joins, joins with older files and names, beside the fixed inputs
 #   oracle/compare.sh self-test [SOURCES]   alters one result after another: each has to be reported
 #
 # SOURCES is as in oracle/build.sh.

@@ -32,7 +32,7 @@ same_line() {
 for take in examples/*.vmd; do
     same_line "$take"
     size=$(wc -c < "$take")
-    for length in 0 29 30 49 50 54 "$((size / 3))" "$((size / 2))" "$((size - 1))"; do
+    for length in 0 29 30 39 40 43 44 49 50 54 "$((size / 3))" "$((size / 2))" "$((size - 1))"; do
         head -c "$length" "$take" > "$work/take"
         same_line "$work/take"
     done

@@ -17,6 +17,9 @@ u32() { printf "\\x$(printf %02x $(($1 % 256)))\\x$(printf %02x $(($1 / 256)))\\
 # the magic and a zero model name
 start() { printf 'Vocaloid Motion Data 0002'; zeros 25; }
 
+# the same of the older edition
+older_start() { printf 'Vocaloid Motion Data file'; zeros 15; }
+
 # a name in a field of so many bytes
 name() { printf %s "$1"; zeros $(($2 - ${#1})); }
 
@@ -36,6 +39,9 @@ saved() {
     size=$(wc -c < "$work/$1")
     [ "$size" -eq "$2" ] || { echo "vmd_list: the test's own file '$1' has $size bytes and not $2" >&2; exit 1; }
 }
+
+# FILE BYTES: keeps a kept take of zero model name in the older edition, as older,FILE of so many bytes
+saved_older() { { older_start; tail -c +51 "$work/$1"; } | saved "older,$1" "$2"; }
 
 # what.. | printed LINE LABEL: the program prints just this line
 printed() {
@@ -70,6 +76,17 @@ property | saved two-ik-states 125
 { bones 7; zeros 200000; } | saved longer 200185
 { counts 0 0 0 0 0 7273; zeros 65462; } | saved 7273-properties 65536
 
+{ older_start; zeros 4; } | saved older-44-bytes 44
+for length in 29 30 39 40 43; do
+    head -c "$length" "$work/older-44-bytes" | saved "older-$length-bytes" "$length"
+done
+saved_older start,0,byte 45
+saved_older start,0,0,1 52
+saved_older one-bone 175
+saved_older four-bones 508
+saved_older two-ik-states 115
+{ older_start; zeros 20; u32 7274; zeros 65472; } | saved older-7274-properties 65536
+
 lists start,0 '0 0 0 0 0 0 0 0 0 74'
 lists empty 'refused 1'
 lists 29-bytes 'refused 1'
@@ -88,6 +105,18 @@ lists longer 'too long'
 # as many property frames as fit: the scratch is enough
 lists 7273-properties '0 0 0 0 0 7273 0 0 0 65531'
 
+# takes of the older edition; the last number is their export's length, which is of the newer
+for length in 29 30 39 40 43; do
+    lists "older-$length-bytes" 'refused 1'
+done
+lists older-44-bytes '0 0 0 0 0 0 0 0 0 74'
+lists older,start,0,byte 'refused 1'
+lists older,start,0,0,1 '0 0 0 0 0 0 0 0 0 74'
+lists older,one-bone '1 0 0 0 0 0 0 7 7 185'
+lists older,four-bones '4 0 0 0 0 0 0 7 300 518'
+lists older,two-ik-states '0 0 0 0 0 1 2 300 300 125'
+lists older-7274-properties '0 0 0 0 0 7274 0 0 0 65540'
+
 # FILE SIZE..: the file's bytes in pieces of these sizes, and then the rest, with a pause before each
 pieces() {
     local file=$work/$1 at=0 size
@@ -101,8 +130,9 @@ pieces() {
 }
 
 pieces one-bone 1 2 29 20 1 60 | printed '1 0 0 0 0 0 0 7 7 185' 'one bone in pieces'
+pieces older,one-bone 1 2 27 9 1 60 | printed '1 0 0 0 0 0 0 7 7 185' 'one bone of the older edition in pieces'
 pieces 65536-bytes 1 4095 4096 20000 | printed '1 0 0 0 0 0 0 7 7 185' '65,536 bytes in pieces'
 pieces 65537-bytes 4097 20000 41439 | printed 'too long' '65,537 bytes in pieces, the last one byte'
-tried=$((tried + 3))
+tried=$((tried + 4))
 
 echo "vmd_list: $tried takes listed as expected"

@@ -18,6 +18,7 @@ use vmd::Take;
 mod against;
 mod calls;
 mod measure;
+mod older;
 #[cfg(feature = "original")]
 mod original;
 mod split;
@@ -357,6 +358,10 @@ fn main() {
             println!("Measured by `./bench` on {}.", machine());
             return split::season(full, &Other::new());
         }
+        [option] if option == "--older" => {
+            println!("Measured by `./bench` on {}.", machine());
+            return older::table(full, &Other::new());
+        }
         [option] if option == "--names" => {
             println!("Measured by `./bench` on {}.", machine());
             return split::all_different(if quick { [30_000, 140_000] } else { [300_000, 1_400_000] });
@@ -367,8 +372,8 @@ fn main() {
         }
         _ => {
             eprintln!(
-                "bench: the options are --quick, which measures small takes, --split, --season, --tables, --names, --against \
-                 LIBRARY and --opening LIBRARY"
+                "bench: the options are --quick, which measures small takes, --older, --split, --season, --tables, --names, \
+                 --against LIBRARY and --opening LIBRARY"
             );
             std::process::exit(2);
         }
@@ -385,6 +390,7 @@ fn main() {
     if !Original::BUILT.is_empty() {
         originals(full, &all);
     }
+    older::table(full, &other);
     growth(&sizes, &other);
     split::table(split_sizes, &other);
     split::season(full, &other);

@@ -136,11 +136,13 @@ fn stage() -> Result<Vec<u8>, vmd::Error> {
     Parts { camera_frames: &cameras, light_frames: &lights, self_shadow_frames: &self_shadows, ..Default::default() }.build()
 }
 
-/// Each take with its file's name; the last is the join of the others.
+/// Each take with its file's name. The show is the join of those before it, and the encore the show again, in the older
+/// edition.
 pub fn takes() -> Result<Vec<(&'static str, Vec<u8>)>, vmd::Error> {
     let (step, leap, stage) = (step()?, leap()?, stage()?);
     let show = vmd::join(&vmd::join(&step, &leap)?, &stage)?;
-    Ok(vec![("step.vmd", step), ("leap.vmd", leap), ("stage.vmd", stage), ("show.vmd", show)])
+    let encore = vmd::export_older(&show)?;
+    Ok(vec![("step.vmd", step), ("leap.vmd", leap), ("stage.vmd", stage), ("show.vmd", show), ("encore.vmd", encore)])
 }
 
 #[allow(dead_code)] // the test that compares takes in this file too

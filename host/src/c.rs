@@ -148,27 +148,52 @@ pub fn model_name(file: &[u8]) -> &[u8] {
     part_of(file, part)
 }
 
-/// How many bytes [`export`](crate::export) gives.
-pub fn export_size(file: &[u8]) -> Result<u64, Refusal> {
-    let mut size = 0;
-    // SAFETY: a slice, and a number of this function's own.
-    answered(unsafe { header::vmd_export_size(file.as_ptr(), file.len(), &mut size) })?;
-    Ok(size)
+/// The calls that save a take in one of the editions: how long the file is, the file in memory of its own, and at the front
+/// of a lent output.
+macro_rules! saving_calls {
+    ($(
+        $(#[$size_doc:meta])* $size:ident: $size_c:ident;
+        $save:ident, $(#[$into_doc:meta])* $into:ident: $save_c:ident;
+    )*) => {
+        $($(#[$size_doc])*
+        pub fn $size(file: &[u8]) -> Result<u64, Refusal> {
+            let mut size = 0;
+            // SAFETY: a slice, and a number of this function's own.
+            answered(unsafe { header::$size_c(file.as_ptr(), file.len(), &mut size) })?;
+            Ok(size)
+        }
+
+        pub fn $save(file: &[u8]) -> Result<Vec<u8>, Error> {
+            // SAFETY: a slice, and new memory for `len` bytes, into which the call writes and does not read.
+            written($size(file)?, |out, len, written| unsafe {
+                header::$save_c(file.as_ptr(), file.len(), out, len, written)
+            })
+        }
+
+        $(#[$into_doc])*
+        pub fn $into(file: &[u8], out: &mut [u8]) -> Result<usize, Refusal> {
+            let mut written = 0;
+            // SAFETY: two slices, of which the output is borrowed by this call alone.
+            answered(unsafe { header::$save_c(file.as_ptr(), file.len(), out.as_mut_ptr(), out.len(), &mut written) })?;
+            Ok(written as usize)
+        })*
+    };
 }
 
-pub fn export(file: &[u8]) -> Result<Vec<u8>, Error> {
-    // SAFETY: a slice, and new memory for `len` bytes, into which the call writes and does not read.
-    written(export_size(file)?, |out, len, written| unsafe {
-        header::vmd_export_animation(file.as_ptr(), file.len(), out, len, written)
-    })
-}
+saving_calls! {
+    /// How many bytes [`export`](crate::export) gives.
+    export_size: vmd_export_size;
+    export,
+    /// [`export`](crate::export) at the front of a lent output, the rest of which stays as it is. Gives how many bytes it
+    /// wrote.
+    export_into: vmd_export_animation;
 
-/// [`export`](crate::export) at the front of a lent output, the rest of which stays as it is. Gives how many bytes it wrote.
-pub fn export_into(file: &[u8], out: &mut [u8]) -> Result<usize, Refusal> {
-    let mut written = 0;
-    // SAFETY: two slices, of which the output is borrowed by this call alone.
-    answered(unsafe { header::vmd_export_animation(file.as_ptr(), file.len(), out.as_mut_ptr(), out.len(), &mut written) })?;
-    Ok(written as usize)
+    /// How many bytes [`export_older`](crate::export_older) gives: 10 fewer than [`export`](crate::export).
+    export_older_size: vmd_export_older_size;
+    export_older,
+    /// [`export_older`](crate::export_older) at the front of a lent output, the rest of which stays as it is. Gives how many
+    /// bytes it wrote.
+    export_older_into: vmd_export_older_animation;
 }
 
 /// How many bytes [`join`](crate::join) gives.
@@ -453,6 +478,51 @@ mod tests {
         assert_eq!(reserve(&mut Vec::<f32>::new(), 1 << 61), Err(Error::NoMemory(1 << 63)));
         assert_eq!(reserve(&mut Vec::<u32>::new(), u64::MAX), Err(Error::NoMemory(u64::MAX)));
         assert_eq!(reserve(&mut Vec::<u32>::new(), 5), Ok(5));
+    }
+
+    /// A take with two property frames, of the newer edition and of the older.
+    fn both_editions() -> [Vec<u8>; 2] {
+        let frame = [1, 0, 0, 0, 0, 0, 0, 0, 0];
+        let sections = [&[0; 20][..], &[2, 0, 0, 0], &frame, &frame].concat();
+        let newer = [b"Vocaloid Motion Data 0002\0\0\0\0\0", &[0; 20][..], &sections].concat();
+        let older = [b"Vocaloid Motion Data file\0\0\0\0\0", &[0; 10][..], &sections].concat();
+        [newer, older]
+    }
+
+    /// Places are positions in the file as it is.
+    #[test]
+    fn places_in_both_editions() {
+        let places = both_editions().map(|file| {
+            let mut scratch = [7; 3];
+            (open(&file, &mut scratch).unwrap().places, scratch)
+        });
+        assert_eq!(places[0], ([54, 58, 62, 66, 70, 74], [74, 83, 7]));
+        assert_eq!(places[1], ([44, 48, 52, 56, 60, 64], [64, 73, 7]));
+    }
+
+    /// A refused call leaves the slot for the length as it was, one that is done the rest of the output.
+    #[test]
+    fn slots_of_a_refused_older_export() {
+        let [mut file, _] = both_editions();
+        let mut out = [7; 85];
+        let mut answers = |file: &[u8], room: usize| {
+            let (mut size, mut len) = (7, 7);
+            // SAFETY: slices, and two numbers of this function's own.
+            let numbers = unsafe {
+                [
+                    header::vmd_export_older_size(file.as_ptr(), file.len(), &mut size),
+                    header::vmd_export_older_animation(file.as_ptr(), file.len(), out[..room].as_mut_ptr(), room, &mut len),
+                ]
+            };
+            (numbers, size, len)
+        };
+        assert_eq!(answers(&file, 82), ([0, 0], 82, 82));
+        assert_eq!(answers(&file, 81), ([0, 13], 82, 7));
+        file[30..41].fill(b'n');
+        assert_eq!(answers(&file, 82), ([15, 15], 7, 7));
+        assert_eq!(answers(&file[..53], 0), ([1, 1], 7, 7));
+        assert_eq!(answers(&[0; 30], 0), ([2, 2], 7, 7));
+        assert_eq!(out[82..], [7; 3]);
     }
 
     /// Tables of 15 bytes for each record as long as a table may be so long, else as long as the file needs them.

@@ -104,6 +104,10 @@ unsafe extern "C" {
     );
     pub fn vmd_export_size(file: *const u8, file_len: usize, size: *mut u64) -> u32;
     pub fn vmd_export_animation(file: *const u8, file_len: usize, out: *mut u8, out_len: usize, written: *mut u64) -> u32;
+    pub fn vmd_export_older_size(file: *const u8, file_len: usize, size: *mut u64) -> u32;
+    pub fn vmd_export_older_animation(
+        file: *const u8, file_len: usize, out: *mut u8, out_len: usize, written: *mut u64,
+    ) -> u32;
     pub fn vmd_join_size(first: *const u8, first_len: usize, second: *const u8, second_len: usize, size: *mut u64) -> u32;
     pub fn vmd_join_animations(
         first: *const u8, first_len: usize, second: *const u8, second_len: usize,

@@ -1,6 +1,9 @@
 //! VMD takes, the motion files of MikuMikuDance: read, saved, joined, built from parts and split into them, and figures over
 //! many of them.
 //!
+//! Files of both editions are read: the newer begin with `Vocaloid Motion Data 0002`, the older with `Vocaloid Motion Data
+//! file`. What is written is of the newer edition, but for [`export_older`].
+//!
 //! A thin layer over the C interface of the proved library (`include/vmd.h`). What the calls answer is its doing; this crate
 //! adds the types of Rust, memory for what is written, and [`save`], which puts a take in the place of another and loses
 //! neither on the way. The calls keep no state and can be made from any thread; [`Take::parts`], [`split_into`],
@@ -49,13 +52,16 @@ mod shown;
 mod system;
 mod take;
 
-pub use c::{export_into, export_size, first_fault, join_into, join_size, split_into, split_sizes};
+pub use c::{
+    export_into, export_older_into, export_older_size, export_size, first_fault, join_into, join_size, split_into,
+    split_sizes,
+};
 pub use parts::{NameTable, OwnedParts, Parts, PartsMut, TableSizes};
 pub use refusal::{Error, Refusal};
 pub use save::{FileId, SaveError, save, save_and_clear};
 pub use season::{Figures, Mean, Season};
 pub use shown::shown;
 pub use take::{
-    BoneFrame, CameraFrame, IkState, LightFrame, MorphFrame, PropertyFrame, SelfShadowFrame, Take, export, join,
-    joined_model,
+    BoneFrame, CameraFrame, IkState, LightFrame, MorphFrame, PropertyFrame, SelfShadowFrame, Take, export, export_older,
+    join, joined_model,
 };

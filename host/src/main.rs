@@ -28,6 +28,8 @@ vmd: VMD takes (MikuMikuDance motion files)
                                   smallest frame, largest frame, export length; or 'refused' and the number of the refusal.
                                   With several files each line has the file's name and ': ' before it
   vmd export IN -o OUT            saves a take in canonical form
+  vmd export --older IN -o OUT    the same in the older edition, which has room for a model name of 10 bytes: a take with a
+                                  longer one is refused
   vmd join FIRST SECOND.. -o OUT  joins takes from left to right: in every section the records of each, one after another
   vmd season FILE..               figures over all takes together, one figure a line: the figure's name, ': ' and the
                                   number. They are how many takes were accepted and refused; for each section its records
@@ -35,6 +37,9 @@ vmd: VMD takes (MikuMikuDance motion files)
                                   bone and morph names of each take, added up; the records of all sections, and these
                                   divided by the accepted takes, with the remainder
   vmd --help, vmd --version
+
+Takes of both editions are read: the newer begin with 'Vocaloid Motion Data 0002', the older with 'Vocaloid Motion Data
+file'. What is written is of the newer edition, but for 'vmd export --older'.
 
 IN, FIRST, SECOND and FILE may be '-' for standard input, one of them at most, and OUT for standard output. No file follows
 -o OUT, unless after '--': there every word is a file, one that begins with '-' too, as in 'vmd join -o OUT -- FIRST
@@ -54,8 +59,11 @@ was; 3 where OUT is the new file, and only its folder could not be flushed: afte
 With status 3 a join into one of its own takes is not to be repeated.
 ";
 
-/// The bytes before a take's first section.
+/// Bytes enough to see whether a file is a take: those before the first section, of which the older edition has fewer.
 const HEADER: u64 = 50;
+
+/// The option that has a take saved in the older edition.
+const OLDER: &str = "--older";
 
 /// Why the command did not do what it was asked.
 enum Failure {
@@ -135,20 +143,23 @@ fn told(failure: &Failure) -> u8 {
     failure.status()
 }
 
+/// What a command does with its words, and the exit status it ends with.
+type Run = fn(&Words) -> Result<u8, Failure>;
+
 fn run(words: &[OsString]) -> Result<u8, Failure> {
     let Some((command, words)) = words.split_first() else {
         return Err(Failure::Usage("no command is given".into()));
     };
-    let run = match command.to_str() {
+    let (run, options): (Run, &[&str]) = match command.to_str() {
         Some("--help" | "-h" | "help") => return print(HELP),
         Some("--version") => return print(concat!("vmd ", env!("CARGO_PKG_VERSION"), "\n")),
-        Some("list") => list,
-        Some("export") => export,
-        Some("join") => join,
-        Some("season") => season,
+        Some("list") => (list, &[]),
+        Some("export") => (export, &[OLDER]),
+        Some("join") => (join, &[]),
+        Some("season") => (season, &[]),
         _ => return Err(Failure::Usage(format!("there is no command '{}'", shown(command)))),
     };
-    match Words::of(words) {
+    match Words::of(words, options) {
         Ok(Some(words)) => run(&words),
         Ok(None) => print(HELP),
         Err(wrong) => Err(wrong.into()),
@@ -210,8 +221,9 @@ fn export(words: &Words) -> Result<u8, Failure> {
     let [from] = words.files[..] else {
         return Err(Failure::Usage("one file is needed, IN".into()));
     };
+    let export = if words.has(OLDER) { vmd::export_older } else { vmd::export };
     let mut sources = Sources::default();
-    let saved = vmd::export(&sources.read(from)?).map_err(|error| Failure::of(from, error))?;
+    let saved = export(&sources.read(from)?).map_err(|error| Failure::of(from, error))?;
     sources.write(to, &saved)
 }
 

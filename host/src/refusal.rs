@@ -51,7 +51,7 @@ macro_rules! refusals {
 refusals! {
     /// The file ends early.
     EndsEarly = 1, "the file ends early";
-    /// The first 26 bytes are not the magic.
+    /// The first 26 bytes are neither edition's magic.
     MagicDiffers = 2, "the file is not a VMD take";
     /// Fewer scratch places than property frames. [`Take`](crate::Take) lends enough.
     ScratchTooShort = 3, "the scratch has fewer places than the file has property frames";
@@ -77,6 +77,8 @@ refusals! {
     OutputTooShort = 13, "the output is shorter than the file to be written";
     /// A buffer for the parts of a take is too short, or a name table passes 4,294,967,295 bytes.
     PartsDoNotFit = 14, "a buffer for the parts is too short, or a name table passes 4,294,967,295 bytes";
+    /// A model name over 10 bytes, which the older edition cannot hold.
+    ModelNameTooLong = 15, "the model name takes more than 10 bytes, and the older edition has no room for it";
 }
 
 impl std::error::Error for Refusal {}

@@ -381,6 +381,27 @@ pub fn export(file: &[u8]) -> Result<Vec<u8>, Error> {
     c::export(file)
 }
 
+/// The canonical file of the older edition with a take's records and model name: 10 bytes shorter than [`export`], with the
+/// same bytes from the bone count on.
+///
+/// Refused with [`ModelNameTooLong`](Refusal::ModelNameTooLong) where the model name has more than 10 bytes, for which the
+/// older edition has no room; a file of the older edition never is.
+///
+/// ```
+/// let file = vmd::Parts { model_name: b"dancer", ..Default::default() }.build()?;
+/// let older = vmd::export_older(&file)?;
+/// assert_eq!(older[..40], *b"Vocaloid Motion Data file\0\0\0\0\0dancer\0\0\0\0");
+/// assert_eq!(older[40..], file[50..]);
+/// assert_eq!(vmd::export(&older)?, file);
+///
+/// let file = vmd::Parts { model_name: b"first dancer", ..Default::default() }.build()?;
+/// assert_eq!(vmd::export_older(&file), Err(vmd::Refusal::ModelNameTooLong.into()));
+/// # Ok::<(), vmd::Error>(())
+/// ```
+pub fn export_older(file: &[u8]) -> Result<Vec<u8>, Error> {
+    c::export_older(file)
+}
+
 /// The canonical file whose every section has the first take's records, then the second's. Its model name is the first's,
 /// or the second's where that is empty.
 pub fn join(first: &[u8], second: &[u8]) -> Result<Vec<u8>, Error> {

@@ -8,7 +8,7 @@ use std::os::unix::ffi::OsStrExt;
 use std::os::unix::process::CommandExt;
 use std::process::{Command, Output, Stdio};
 
-use common::{Folder, at_frames, bones, counts, err, out, start, status, vmd, vmd_under, vmd_with};
+use common::{Folder, as_older, at_frames, bones, counts, err, older_start, out, start, status, vmd, vmd_under, vmd_with};
 
 /// The output of a command that reads these bytes on its standard input.
 fn given(command: &mut Command, input: &[u8]) -> Output {
@@ -48,6 +48,14 @@ fn lists_a_take_in_one_line() {
         (bones(2000, 1), "2000 0 0 0 0 0 0 0 1999 222074", 0),
         (at_frames([vec![], vec![u32::MAX], vec![], vec![], vec![], vec![]]), "0 1 0 0 0 0 0 4294967295 4294967295 97", 0),
         (vmd::join(&property(), &sections).unwrap(), "1 3 4 5 6 8 2 20 300 806", 0),
+        (older_start()[..29].to_vec(), "refused 1", 1),
+        (older_start()[..30].to_vec(), "refused 1", 1),
+        (older_start()[..39].to_vec(), "refused 1", 1),
+        (older_start(), "refused 1", 1),
+        (as_older(&counts(&[0]))[..43].to_vec(), "refused 1", 1),
+        (as_older(&counts(&[0])), "0 0 0 0 0 0 0 0 0 74", 0),
+        (as_older(&property()), "0 0 0 0 0 1 2 300 300 125", 0),
+        (as_older(&bones(2000, 1)), "2000 0 0 0 0 0 0 0 1999 222074", 0),
     ] {
         let path = folder.file("take", &file);
         let listed = vmd().arg("list").arg(&path).output().unwrap();
@@ -126,6 +134,103 @@ fn joins_many() {
     }
 }
 
+/// Every command does with a take of the older edition what it does with the same take of the newer.
+#[test]
+fn takes_of_both_editions() {
+    let folder = Folder::new("editions");
+    let (newer, other) = (bones(5, 1), bones(3, 2));
+    folder.file("newer", &newer);
+    folder.file("older", &as_older(&newer));
+    folder.file("other", &other);
+    let run = |words: &[&str]| {
+        let done = vmd().current_dir(&folder.0).args(words).output().unwrap();
+        assert_eq!((status(&done), err(&done)), (0, String::new()), "{words:?}");
+        done.stdout
+    };
+    assert_eq!(run(&["list", "older"]), run(&["list", "newer"]));
+    assert_eq!(run(&["export", "older", "-o", "-"]), newer);
+    let joined = [vmd::join(&newer, &other), vmd::join(&other, &newer), vmd::join(&newer, &newer)].map(Result::unwrap);
+    assert_eq!(run(&["join", "older", "other", "-o", "-"]), joined[0]);
+    assert_eq!(run(&["join", "other", "older", "-o", "-"]), joined[1]);
+    assert_eq!(run(&["join", "older", "newer", "-o", "-"]), joined[2]);
+    assert_eq!(run(&["join", "newer", "older", "-o", "-"]), joined[2]);
+    assert_eq!(run(&["season", "older", "other", "older"]), run(&["season", "newer", "other", "newer"]));
+}
+
+/// Wherever the option stands, to a file and to standard output, from a take of either edition.
+#[test]
+fn exports_in_the_older_edition() {
+    let folder = Folder::new("older");
+    let take = bones(3, 1);
+    let older = as_older(&take);
+    folder.file("newer", &take[..take.len() - 20]);
+    folder.file("older", &older[..older.len() - 20]);
+    for words in [
+        &["export", "--older", "newer", "-o", "out"][..],
+        &["export", "newer", "--older", "-o", "out"],
+        &["export", "newer", "-o", "out", "--older"],
+        &["export", "-o", "out", "--older", "--", "newer"],
+        &["export", "--older", "older", "-o", "out"],
+    ] {
+        let done = vmd().current_dir(&folder.0).args(words).output().unwrap();
+        assert_eq!((status(&done), out(&done), err(&done)), (0, String::new(), String::new()), "{words:?}");
+        assert_eq!(fs::read(folder.join("out")).unwrap(), older, "{words:?}");
+        fs::remove_file(folder.join("out")).unwrap();
+    }
+    let done = given(vmd().args(["export", "--older", "-", "-o", "-"]), &take);
+    assert_eq!((status(&done), done.stdout), (0, older.clone()));
+    // over the take itself, and back
+    let saved_over = |words: &[&str]| {
+        let done = vmd().current_dir(&folder.0).args(words).args(["newer", "-o", "newer"]).output().unwrap();
+        assert_eq!((status(&done), err(&done)), (0, String::new()), "{words:?}");
+        fs::read(folder.join("newer")).unwrap()
+    };
+    assert_eq!(saved_over(&["export", "--older"]), older);
+    assert_eq!(saved_over(&["export"]), take);
+    assert_eq!(folder.names(), ["newer", "older"]);
+}
+
+/// The example of the older edition is what the command makes of another.
+#[test]
+fn exports_the_encore() {
+    let examples = concat!(env!("CARGO_MANIFEST_DIR"), "/../examples");
+    for (words, name) in [(&["export", "--older", "show.vmd"][..], "encore.vmd"), (&["export", "encore.vmd"], "show.vmd")] {
+        let done = vmd().current_dir(examples).args(words).args(["-o", "-"]).output().unwrap();
+        assert_eq!((status(&done), err(&done)), (0, String::new()));
+        assert!(done.stdout == fs::read(format!("{examples}/{name}")).unwrap(), "{name}");
+    }
+}
+
+/// A take that the older edition has no room for is named, and nothing is written.
+#[test]
+fn a_model_name_that_is_too_long_for_the_older_edition() {
+    let folder = Folder::new("long");
+    let mut take = bones(2, 1);
+    take[30..41].copy_from_slice(b"eleven byte");
+    folder.file("take", &take);
+    folder.file("out", b"old");
+    let sentence = "refused 15: the model name takes more than 10 bytes, and the older edition has no room for it";
+    for to in ["out", "none", "take", "-"] {
+        let done = vmd().current_dir(&folder.0).args(["export", "--older", "take", "-o", to]).output().unwrap();
+        assert_eq!((status(&done), out(&done)), (1, String::new()), "{to}");
+        assert_eq!(err(&done), format!("vmd: take: {sentence}\n"));
+    }
+    let piped = given(vmd().current_dir(&folder.0).args(["export", "--older", "-", "-o", "out"]), &take);
+    assert_eq!((status(&piped), err(&piped)), (1, format!("vmd: standard input: {sentence}\n")));
+    assert_eq!(fs::read(folder.join("out")).unwrap(), b"old");
+    assert_eq!(fs::read(folder.join("take")).unwrap(), take);
+    assert_eq!(folder.names(), ["out", "take"]);
+
+    // the newer edition has room for it, and the older for a byte less
+    let done = vmd().current_dir(&folder.0).args(["export", "take", "-o", "-"]).output().unwrap();
+    assert_eq!((status(&done), &done.stdout), (0, &take));
+    take[40] = 0;
+    folder.file("take", &take);
+    let done = vmd().current_dir(&folder.0).args(["export", "--older", "take", "-o", "out"]).output().unwrap();
+    assert_eq!((status(&done), err(&done)), (0, String::new()));
+    assert_eq!(fs::read(folder.join("out")).unwrap(), as_older(&take));
+}
+
 /// The figures of a season as they are printed: each section's total, smallest and largest, and the rest in their order.
 fn figures(takes: [u64; 2], sections: [[u64; 3]; 6], rest: [u64; 5]) -> String {
     let names = ["bones", "morphs", "cameras", "lights", "self-shadows", "properties"];
@@ -147,35 +252,35 @@ fn figures(takes: [u64; 2], sections: [[u64; 3]; 6], rest: [u64; 5]) -> String {
 #[test]
 fn figures_of_the_examples() {
     let examples = concat!(env!("CARGO_MANIFEST_DIR"), "/../examples");
-    let takes = ["leap.vmd", "show.vmd", "stage.vmd", "step.vmd"];
+    let takes = ["encore.vmd", "leap.vmd", "show.vmd", "stage.vmd", "step.vmd"];
     let done = vmd().current_dir(examples).arg("season").args(takes).output().unwrap();
     assert_eq!((status(&done), err(&done)), (0, String::new()));
     let expected = "\
-accepted takes: 4
+accepted takes: 5
 refused takes: 0
-bones, total: 22
+bones, total: 33
 bones, smallest: 0
 bones, largest: 11
-morphs, total: 8
+morphs, total: 12
 morphs, smallest: 0
 morphs, largest: 4
-cameras, total: 6
+cameras, total: 9
 cameras, smallest: 0
 cameras, largest: 3
-lights, total: 4
+lights, total: 6
 lights, smallest: 0
 lights, largest: 2
-self-shadows, total: 6
+self-shadows, total: 9
 self-shadows, smallest: 0
 self-shadows, largest: 3
-properties, total: 8
+properties, total: 12
 properties, smallest: 0
 properties, largest: 4
-distinct bone names, added up over the takes: 7
-distinct morph names, added up over the takes: 4
-records of all sections: 54
-records per accepted take: 13
-records per accepted take, remainder: 2
+distinct bone names, added up over the takes: 10
+distinct morph names, added up over the takes: 6
+records of all sections: 81
+records per accepted take: 16
+records per accepted take, remainder: 1
 ";
     assert_eq!(out(&done), expected);
 }
@@ -261,7 +366,8 @@ fn refused_takes_are_named_and_nothing_is_written() {
     let folder = Folder::new("refused");
     let (good, bad) = (folder.file("good", &bones(1, 1)), folder.file("bad", &[0x41; 60]));
     let to = folder.file("out", b"old");
-    for words in [&["export", "bad"][..], &["join", "good", "bad"], &["join", "bad", "good"]] {
+    for words in [&["export", "bad"][..], &["export", "--older", "bad"], &["join", "good", "bad"], &["join", "bad", "good"]]
+    {
         let done = vmd().current_dir(&folder.0).args(words).args(["-o", "out"]).output().unwrap();
         assert_eq!(err(&done), "vmd: bad: refused 2: the file is not a VMD take\n", "{words:?}");
         assert_eq!((status(&done), out(&done)), (1, String::new()));
@@ -296,6 +402,12 @@ fn usage() {
         &["export", "a", "-o", "--", "b"],
         &["export", "a", "-o", "-x"],
         &["export", "-o", "b", "a"],
+        &["export", "--older", "a"],
+        &["export", "--older", "-o", "b"],
+        &["export", "--older", "a", "b", "-o", "c"],
+        &["export", "a", "-o", "--older"],
+        &["export", "-o", "b", "--older", "a"],
+        &["--older", "a", "-o", "b"],
         &["join", "a", "-o", "b"],
         &["join", "a", "b"],
         &["join", "a", "b", "--", "-o", "c"],
@@ -311,12 +423,25 @@ fn usage() {
         assert_eq!((status(&done), out(&done)), (2, String::new()), "{words:?}");
         assert!(err(&done).starts_with("vmd: ") && err(&done).lines().count() == 1, "{words:?}: {}", err(&done));
     }
+    for (words, sentence) in [
+        (&["export", "--older", "a", "--older", "-o", "b"][..], "export: --older is given twice"),
+        (&["export", "--oldest", "a", "-o", "b"], "export: there is no option '--oldest'"),
+        (&["export", "-older", "a", "-o", "b"], "export: there is no option '-older'"),
+        (&["list", "--older", "a"], "list: there is no option '--older'"),
+        (&["join", "--older", "a", "b", "-o", "c"], "join: there is no option '--older'"),
+        (&["season", "a", "--older"], "season: there is no option '--older'"),
+    ] {
+        let done = vmd().args(words).output().unwrap();
+        assert_eq!((status(&done), out(&done)), (2, String::new()), "{words:?}");
+        assert_eq!(err(&done), format!("vmd: {sentence}; 'vmd --help' tells more\n"));
+    }
     let help = vmd().arg("--help").output().unwrap();
     assert_eq!((status(&help), err(&help)), (0, String::new()));
     for word in [
         "vmd list FILE..",
         "smallest frame, largest frame, export length",
         "vmd export IN -o OUT",
+        "vmd export --older IN -o OUT",
         "vmd join FIRST SECOND.. -o OUT",
         "vmd season FILE..",
         "Exit status",
@@ -336,7 +461,7 @@ fn a_forgotten_output_touches_nothing() {
     let names = ["1.vmd", "2.vmd", "3.vmd"];
     names.iter().zip(&takes).for_each(|(name, take)| drop(folder.file(name, take)));
     // the last: the shell's list stands where OUT was forgotten, and its first take must not be OUT
-    for words in [&["export"][..], &["join"], &["join", "-o"]] {
+    for words in [&["export"][..], &["export", "--older"], &["join"], &["join", "-o"]] {
         let takes = if words[0] == "export" { &names[..2] } else { &names };
         let done = vmd().current_dir(&folder.0).args(words).args(takes).output().unwrap();
         assert_eq!((status(&done), out(&done)), (2, String::new()), "{words:?}");
@@ -353,6 +478,7 @@ fn help_after_a_command() {
         &["list", "--help"][..],
         &["list", "-h"],
         &["export", "a", "--help"],
+        &["export", "--older", "--help"],
         &["join", "--help", "-o", "a"],
         &["season", "a", "--help"],
     ] {
@@ -368,6 +494,7 @@ fn files_that_look_like_options() {
     let (one, two) = (bones(1, 1), bones(2, 2));
     folder.file("-o", &one);
     folder.file("--help", &two);
+    folder.file("--older", &one);
     let run = |words: &[&str]| given(vmd().current_dir(&folder.0).args(words), &two);
     let listed = run(&["list", "--", "-o", "--help", "-"]);
     let lines = "-o: 1 0 0 0 0 0 0 0 0 185\n--help: 2 0 0 0 0 0 0 0 1 296\nstandard input: 2 0 0 0 0 0 0 0 1 296\n";
@@ -375,6 +502,9 @@ fn files_that_look_like_options() {
     let done = run(&["join", "-o", "out", "--", "-o", "--help"]);
     assert_eq!((status(&done), err(&done)), (0, String::new()));
     assert_eq!(fs::read(folder.join("out")).unwrap(), vmd::join(&one, &two).unwrap());
+    let done = run(&["export", "-o", "out", "--", "--older"]);
+    assert_eq!((status(&done), err(&done)), (0, String::new()));
+    assert_eq!(fs::read(folder.join("out")).unwrap(), one);
     let done = run(&["export", "./-o", "-o", "./--help"]);
     assert_eq!((status(&done), err(&done)), (0, String::new()));
     assert_eq!(fs::read(folder.join("--help")).unwrap(), one);
@@ -419,14 +549,18 @@ fn names_that_are_no_line() {
 #[test]
 fn inputs_that_cannot_be_read() {
     let folder = Folder::new("unreadable");
-    let huge = folder.file("huge", &start());
-    fs::File::options().write(true).open(&huge).unwrap().set_len(1 << 40).unwrap();
+    let huge = |name: &str, start: &[u8]| {
+        let path = folder.file(name, start);
+        fs::File::options().write(true).open(&path).unwrap().set_len(1 << 40).unwrap();
+        path
+    };
     let endless = format!("ulimit -v 300000; {{ cat '{}'; cat /dev/zero; }} |", folder.file("start", &start()).display());
     let cases = [
         (vmd(), folder.join("none"), "No such file"),
         (vmd(), folder.0.clone(), "it is a folder"),
         (vmd(), folder.join("none/none"), "No such file"),
-        (vmd_under("ulimit -v 300000"), huge, "no memory"),
+        (vmd_under("ulimit -v 300000"), huge("huge", &start()), "no memory"),
+        (vmd_under("ulimit -v 300000"), huge("huge-older", &older_start()), "no memory"),
         (vmd_with(&endless), "-".into(), "no memory"),
     ];
     for (mut command, path, sentence) in cases {
@@ -547,6 +681,7 @@ fn a_standard_output_that_takes_nothing() {
     for words in [
         &["export", "take", "-o", "-"][..],
         &["export", "take", "-o", "/dev/stdout"],
+        &["export", "--older", "take", "-o", "-"],
         &["join", "take", "take", "-o", "-"],
         &["list", "take"],
         &["season", "take", "take"],

@@ -21,12 +21,27 @@ fn the_examples_are_what_their_maker_writes() {
     }
 }
 
+fn named<'t>(takes: &'t [(&str, Vec<u8>)], name: &str) -> &'t [u8] {
+    &takes.iter().find(|(of, _)| *of == name).unwrap().1
+}
+
+/// The show again, 10 bytes shorter: saved in the newer edition it is the show.
+#[test]
+fn the_encore_is_of_the_older_edition() {
+    let takes = make_examples::takes().unwrap();
+    let (show, encore) = (named(&takes, "show.vmd"), named(&takes, "encore.vmd"));
+    assert_eq!(encore[..40], *b"Vocaloid Motion Data file\0\0\0\0\0dancer\0\0\0\0");
+    assert_eq!(encore[40..], show[50..]);
+    assert_eq!(vmd::export(encore).unwrap(), show);
+    assert_eq!(vmd::export_older(encore).unwrap(), encore);
+    assert_eq!(Take::open(encore).unwrap().parts().unwrap(), Take::open(show).unwrap().parts().unwrap());
+}
+
 #[test]
 fn the_leap_switches_the_legs_off() {
     let takes = make_examples::takes().unwrap();
-    for name in ["leap.vmd", "show.vmd"] {
-        let (_, file) = takes.iter().find(|(of, _)| *of == name).unwrap();
-        let take = Take::open(file).unwrap();
+    for name in ["leap.vmd", "show.vmd", "encore.vmd"] {
+        let take = Take::open(named(&takes, name)).unwrap();
         let enabled = take.property_frames().enumerate().map(|(i, property)| {
             let states: Vec<_> = take.ik_states_of(i).map(|state| state.enabled).collect();
             (property.frame, states)

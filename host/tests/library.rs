@@ -8,7 +8,7 @@ use std::ops::Range;
 use std::path::Path;
 use std::thread;
 
-use common::{at_frames, bones, counts, start};
+use common::{as_older, at_frames, bones, counts, older_start, start, widened};
 use vmd::{Error, Figures, Mean, NameTable, OwnedParts, Parts, PartsMut, Refusal, Season, TableSizes, Take};
 
 /// Records as a file has them, with a value of its own in every field.
@@ -466,6 +466,258 @@ fn frames_of_a_join() {
                 let joined = vmd::join(first, second).unwrap();
                 assert_eq!(smallest_and_largest(&joined), expected, "sections {i} and {j}");
             }
+        }
+    }
+}
+
+// ---- the older edition
+
+/// Files of the older edition with these bytes in the model name's field. Among them are records that saving changes,
+/// sections that are missing or emptied, and bytes after the last one.
+fn older_files(model_name: &[u8; 10]) -> Vec<Vec<u8>> {
+    let mut newer = vec![six_sections(), bones(7, 1), property_take(3), morphs(&[b"smile", b"", b"smile\0?"])];
+    newer.extend([counts(&[0]), counts(&[0; 6]), counts(&[0, 0, 1]), bones(2, 1)[..276].to_vec()]);
+    newer.push([six_sections(), vec![0xC5; 30]].concat());
+    let named = |file: &Vec<u8>| {
+        let mut older = as_older(file);
+        older[26..30].copy_from_slice(b"junk");
+        older[30..40].copy_from_slice(model_name);
+        older
+    };
+    newer.iter().map(named).collect()
+}
+
+/// The same with several model names: none, one that ends early, and one that fills its field.
+fn all_older_files() -> Vec<Vec<u8>> {
+    [b"\0unused\0\0\0", b"model\0\0\0?!", b"ten bytes!"].into_iter().flat_map(older_files).collect()
+}
+
+/// Where a part of a take stands in its file.
+fn place(take: &Take, part: &[u8]) -> usize {
+    part.as_ptr() as usize - take.file().as_ptr() as usize
+}
+
+/// Where all interpolation bytes stand, and all names that are not empty, but for the model's.
+fn places(take: &Take) -> Vec<usize> {
+    let curves = take.bone_frames().map(|bone| &bone.interpolation[..]);
+    let curves = curves.chain(take.camera_frames().map(|camera| &camera.interpolation[..]));
+    let states = (0..take.properties()).flat_map(|i| take.ik_states_of(i)).map(|state| state.name);
+    let names = take.bone_frames().map(|bone| bone.name).chain(take.morph_frames().map(|morph| morph.name)).chain(states);
+    curves.chain(names.filter(|name| !name.is_empty())).map(|part| place(take, part)).collect()
+}
+
+/// A model name that fills its field ends with it, whatever follows; the first bone stands at 44.
+#[test]
+fn an_older_file_is_read() {
+    let names: [(&[u8; 10], &[u8]); 3] =
+        [(b"\0unused\0\0\0", b""), (b"model\0\0\0?!", b"model"), (b"ten bytes!", b"ten bytes!")];
+    for (field, name) in names {
+        let take = Take::open(older_files(field).remove(0)).unwrap();
+        assert_eq!(take.model_name(), name);
+        let found = [take.bones(), take.morphs(), take.cameras(), take.lights(), take.self_shadows(), take.properties()];
+        assert_eq!((found, take.ik_states()), ([2, 1, 2, 1, 1, 2], 2));
+        assert_eq!((take.smallest_frame(), take.largest_frame()), (7, 15));
+        let bone = take.bone(0).unwrap();
+        assert_eq!((bone.name, bone.frame, place(&take, bone.name)), (&b"arm"[..], 7, 44));
+    }
+}
+
+/// Its records and model name are those of the widened file. They stand 10 bytes before, the name where it stood.
+#[test]
+fn an_older_file_reads_as_it_does_widened() {
+    for older in all_older_files() {
+        let wide = widened(&older);
+        let (take, expected) = (Take::open(&older).unwrap(), Take::open(&wide).unwrap());
+        let numbers = |take: &Take| (take.ik_states(), take.smallest_frame(), take.largest_frame());
+        assert_eq!(numbers(&take), numbers(&expected));
+        assert!(take.bone_frames().eq(expected.bone_frames()));
+        assert!(take.morph_frames().eq(expected.morph_frames()));
+        assert!(take.camera_frames().eq(expected.camera_frames()));
+        assert!(take.light_frames().eq(expected.light_frames()));
+        assert!(take.self_shadow_frames().eq(expected.self_shadow_frames()));
+        assert!(take.property_frames().eq(expected.property_frames()));
+        assert!((0..take.properties()).all(|i| take.ik_states_of(i).eq(expected.ik_states_of(i))));
+        assert!(places(&take).iter().map(|place| place + 10).eq(places(&expected)));
+        assert_eq!((take.model_name(), take.file()), (expected.model_name(), &older[..]));
+        assert!(take.model_name().is_empty() || place(&take, take.model_name()) == 30);
+        let parts = take.parts().unwrap();
+        assert_eq!(parts, expected.parts().unwrap());
+        in_exact_tables(&older, &parts);
+        assert_eq!(season_of([&older[..]]), season_of([&wide[..]]));
+        assert_eq!(vmd::export(&older).unwrap(), vmd::export(&wide).unwrap());
+        assert_eq!(vmd::export_size(&older), vmd::export_size(&wide));
+    }
+}
+
+/// What every call that reads a take answers for one that is refused.
+fn refused_by_all(file: &[u8]) -> u32 {
+    let good = counts(&[0; 6]);
+    let refusals = [
+        Take::open(file).map(|_| ()).unwrap_err(),
+        vmd::export(file).unwrap_err(),
+        vmd::export_older(file).unwrap_err(),
+        vmd::join(file, &good).unwrap_err(),
+        vmd::join(&good, file).unwrap_err(),
+        vmd::export_size(file).unwrap_err().into(),
+        vmd::export_older_size(file).unwrap_err().into(),
+        vmd::join_size(&good, file).unwrap_err().into(),
+        vmd::split_sizes(file).unwrap_err().into(),
+    ];
+    assert!(refusals.iter().all(|refusal| *refusal == refusals[0]), "{refusals:?}");
+    assert!(!Season::new().add(file));
+    match refusals[0] {
+        Error::Refused(refusal) => refusal.number(),
+        error => panic!("{error}"),
+    }
+}
+
+/// 30 bytes for the magic, 10 for the model name, and a bone count. Cut anywhere it is answered as the widened file is.
+#[test]
+fn older_files_that_end_early() {
+    let none = [older_start(), vec![0; 4]].concat();
+    for len in [0, 25, 26, 29, 30, 39, 40, 43] {
+        assert_eq!(refused_by_all(&none[..len]), 1, "{len} bytes");
+    }
+    assert_eq!(vmd::export(&none).unwrap(), counts(&[0; 6]));
+    for older in older_files(b"ten bytes!") {
+        let wide = widened(&older);
+        for len in 40..=older.len() {
+            assert_eq!(vmd::export(&older[..len]), vmd::export(&wide[..len + 10]), "{len} bytes");
+        }
+    }
+    // a header is there or is not, whatever follows
+    let (older, other) =
+        (&older_files(b"ten bytes!")[0], Parts { model_name: b"other", ..Default::default() }.build().unwrap());
+    let names = [39, 40, 41].map(|len| vmd::joined_model(&older[..len], &other));
+    assert_eq!(names, [&b"other"[..], b"ten bytes!", b"ten bytes!"]);
+}
+
+/// Each of the 26 bytes counts, in both editions; the four that follow do not.
+#[test]
+fn magics() {
+    let (newer, older) = (six_sections(), as_older(&six_sections()));
+    for (file, other) in [(&newer, &older), (&older, &newer)] {
+        for at in 0..30 {
+            // another byte, and where the editions differ the other one's
+            for byte in [file[at] ^ 0x80, other[at]].into_iter().filter(|byte| *byte != file[at]) {
+                let mut changed = file.clone();
+                changed[at] = byte;
+                if at < 26 {
+                    assert_eq!([30, 40, changed.len()].map(|len| refused_by_all(&changed[..len])), [2; 3], "byte {at}");
+                    assert_eq!(refused_by_all(&changed[..29]), 1);
+                } else {
+                    assert_eq!(vmd::export(&changed), vmd::export(file), "byte {at}");
+                }
+            }
+        }
+    }
+}
+
+#[test]
+fn takes_of_both_editions_are_joined() {
+    let older = older_files(b"ten bytes!");
+    let newer = [six_sections(), bones(3, 2), counts(&[0; 6])];
+    for older in older.iter().chain(&older_files(b"\0unused\0\0\0")) {
+        let wide = widened(older);
+        for newer in &newer {
+            for ([first, second], [wide_first, wide_second]) in
+                [([older, newer], [&wide, newer]), ([newer, older], [newer, &wide]), ([older, older], [&wide, &wide])]
+            {
+                let expected = vmd::join(wide_first, wide_second).unwrap();
+                assert_eq!(vmd::join(first, second).unwrap(), expected);
+                assert_eq!(vmd::join_size(first, second), Ok(expected.len() as u64));
+                assert_eq!(vmd::joined_model(first, second), vmd::joined_model(wide_first, wide_second));
+                let mut out = vec![0xA5; expected.len() + 3];
+                assert_eq!(vmd::join_into(first, second, &mut out), Ok(expected.len()));
+                assert_eq!((&out[..expected.len()], &out[expected.len()..]), (&expected[..], &[0xA5; 3][..]));
+            }
+        }
+    }
+}
+
+/// From files of both editions: the header of the older, with zeros after the magic and the model name, and the export from
+/// its bone count on. Widened it is the export, and it reads as the take.
+#[test]
+fn saved_in_the_older_edition() {
+    let mut files = all_older_files();
+    files.extend([six_sections(), bones(7, 1), counts(&[0]), counts(&[0, 0, 1])]);
+    files.extend(examples());
+    for file in &files {
+        let export = vmd::export(file).unwrap();
+        let older = vmd::export_older(file).unwrap();
+        assert_eq!(older[..30], *b"Vocaloid Motion Data file\0\0\0\0\0");
+        assert_eq!((&older[30..40], &older[40..]), (&export[30..40], &export[50..]));
+        assert_eq!(vmd::export_older_size(file), Ok(export.len() as u64 - 10));
+        assert_eq!(widened(&older), export);
+        assert_eq!(vmd::export(&older).unwrap(), export);
+        assert_eq!(vmd::export_older(&older).unwrap(), older);
+        assert_eq!(Take::open(&older).unwrap().parts().unwrap(), Take::open(file).unwrap().parts().unwrap());
+    }
+}
+
+/// A file of the newer edition whose model name has so many bytes, and other bytes after its zero.
+fn with_model_name_of(len: usize) -> Vec<u8> {
+    let mut file = six_sections();
+    file[30..50].fill(0xC5);
+    file[30..30 + len].fill(b'n');
+    if len < 20 {
+        file[30 + len] = 0;
+    }
+    file
+}
+
+/// 15 for each that is longer, whatever output there is, and an older file is never refused with it.
+#[test]
+fn model_names_of_up_to_ten_bytes() {
+    for len in 0..=20 {
+        let file = with_model_name_of(len);
+        let size = vmd::export_size(&file).unwrap() as usize;
+        if len <= 10 {
+            let older = vmd::export_older(&file).unwrap();
+            assert_eq!(older.len(), size - 10);
+            assert_eq!(Take::open(&older).unwrap().model_name(), vec![b'n'; len]);
+            assert!(older[30 + len..40].iter().all(|byte| *byte == 0));
+        } else {
+            assert_eq!(vmd::export_older(&file), Err(Refusal::ModelNameTooLong.into()));
+            assert_eq!(vmd::export_older_size(&file), Err(Refusal::ModelNameTooLong));
+            for room in [0, 39, size - 11, size - 10, size, size + 9] {
+                assert_eq!(refused_by_older_export(&file, room), 15, "a name of {len} bytes, an output of {room}");
+            }
+        }
+    }
+}
+
+/// The number, with an output of so many bytes, which stay as they were.
+fn refused_by_older_export(file: &[u8], room: usize) -> u32 {
+    let mut out = vec![0xA5; room];
+    let refusal = vmd::export_older_into(file, &mut out).unwrap_err();
+    assert!(out.iter().all(|byte| *byte == 0xA5), "a refused call has written");
+    refusal.number()
+}
+
+/// 1 and 2 come before 15, and 15 before 13.
+#[test]
+fn refusals_of_the_older_export() {
+    let (good, long) = (with_model_name_of(10), with_model_name_of(11));
+    let size = vmd::export_older_size(&good).unwrap() as usize;
+    for room in [0, 10, size, size + 10] {
+        assert_eq!(refused_by_older_export(&long[..long.len() - 1], room), 1);
+        assert_eq!(refused_by_older_export(&long[..50], room), 1);
+        assert_eq!(refused_by_older_export(&as_older(&good)[..43], room), 1);
+        let mut other = long.clone();
+        other[25] = b'?';
+        assert_eq!(refused_by_older_export(&other, room), 2);
+        assert_eq!(refused_by_older_export(&long, room), 15);
+    }
+    for file in [&good, &as_older(&good)] {
+        for room in [0, 1, 39, 40, size - 1] {
+            assert_eq!(refused_by_older_export(file, room), 13, "an output of {room} bytes");
+        }
+        let older = vmd::export_older(file).unwrap();
+        for more in [0, 1, 10, 99] {
+            let mut out = vec![0xA5; size + more];
+            assert_eq!(vmd::export_older_into(file, &mut out), Ok(size));
+            assert!(out[..size] == older && out[size..].iter().all(|byte| *byte == 0xA5), "{more} bytes more");
         }
     }
 }

@@ -11,22 +11,31 @@ use std::process::{Command, Output, Stdio};
 use std::thread;
 use std::time::{Duration, Instant, SystemTime};
 
-use common::{Folder, attributes, bones, err, status, vmd, vmd_under, vmd_with};
+use common::{Folder, as_older, attributes, bones, err, status, vmd, vmd_under, vmd_with};
 use vmd::FileId;
 
 /// A folder with the canonical takes `new` and `old`, and `take`, which is the old one and is to be saved over.
 struct Saving {
     folder: Folder,
     old: Vec<u8>,
+    /// What the take is once it is saved.
     new: Vec<u8>,
+    options: &'static [&'static str],
 }
 
 impl Saving {
     fn of(name: &str, bones_each: u32) -> Saving {
-        let saving = Saving { folder: Folder::new(name), old: bones(bones_each, 1), new: bones(bones_each + 1, 2) };
+        let (old, new) = (bones(bones_each, 1), bones(bones_each + 1, 2));
+        let saving = Saving { folder: Folder::new(name), old, new, options: &[] };
         saving.folder.file("new", &saving.new);
         saving.put_back();
         saving
+    }
+
+    /// The new take is saved as it is, and in the older edition.
+    fn in_both_editions(name: &str, bones_each: u32) -> [Saving; 2] {
+        let [newer, older] = [Saving::of(name, bones_each), Saving::of(name, bones_each)];
+        [newer, Saving { new: as_older(&older.new), options: &["--older"], ..older }]
     }
 
     fn put_back(&self) {
@@ -45,6 +54,7 @@ impl Saving {
     fn words<'c>(&self, command: &'c mut Command) -> &'c mut Command {
         command
             .arg("export")
+            .args(self.options)
             .arg(self.folder.join("new"))
             .arg("-o")
             .arg(self.take())
@@ -132,6 +142,12 @@ fn system_calls(saving: &Saving) -> Option<Vec<(String, u32)>> {
     Some(calls)
 }
 
+/// Those that are not for memory.
+fn without_memory(mut calls: Vec<(String, u32)>) -> Vec<(String, u32)> {
+    calls.retain(|(name, _)| !["brk", "mmap", "munmap", "mremap"].contains(&name.as_str()));
+    calls
+}
+
 /// The command with something done to it at one of its system calls.
 fn injected((call, n): &(String, u32), what: &str) -> Command {
     let mut strace = Command::new("strace");
@@ -142,8 +158,11 @@ fn injected((call, n): &(String, u32), what: &str) -> Command {
 /// The command is killed before each of its system calls in turn.
 #[test]
 fn killed_before_each_system_call() {
-    let saving = Saving::of("calls", 1000);
-    let Some(calls) = system_calls(&saving) else { return };
+    Saving::in_both_editions("calls", 1000).iter().for_each(expect_whole_where_killed);
+}
+
+fn expect_whole_where_killed(saving: &Saving) {
+    let Some(calls) = system_calls(saving) else { return };
     let (mut new, mut left) = (0, 0);
     for call in &calls {
         saving.put_back();
@@ -160,13 +179,16 @@ fn killed_before_each_system_call() {
 /// Each system call fails in turn: the old take stays, or the new one is there. Where the command says that it is done it is.
 #[test]
 fn each_system_call_fails() {
-    let saving = Saving::of("fails", 1000);
-    let Some(mut calls) = system_calls(&saving) else { return };
+    Saving::in_both_editions("fails", 1000).iter().for_each(expect_failures_told);
+}
+
+fn expect_failures_told(saving: &Saving) {
+    let Some(mut calls) = system_calls(saving) else { return };
     // Rust's library stops the program where a folder that it has listed cannot be closed, which no system refuses.
     let listed = calls.iter().rposition(|(name, _)| name == "getdents64").unwrap();
     let closed = listed + calls[listed..].iter().position(|(name, _)| name == "close").unwrap();
     calls.remove(closed);
-    calls.retain(|(name, _)| !["brk", "mmap", "munmap", "mremap"].contains(&name.as_str())); // too little memory is not this
+    let calls = without_memory(calls); // too little memory is not this
     let (mut told, mut unflushed) = (0, 0);
     for error in ["EIO", "ENOSPC"] {
         for call in &calls {
@@ -211,6 +233,13 @@ fn flushed_before_and_after() {
     let kinds = ["write", "fsync", "fadvise64", "rename"];
     let order: Vec<_> = calls.iter().map(|(name, _)| name.as_str()).filter(|n| kinds.contains(n)).collect();
     assert_eq!(order, ["write", "fsync", "fadvise64", "rename", "fsync"]);
+}
+
+/// A take is saved in the older edition as in the newer: by the same calls of the system, but for those for memory.
+#[test]
+fn the_same_system_calls_in_both_editions() {
+    let [newer, older] = Saving::in_both_editions("same", 1000).map(|saving| system_calls(&saving).map(without_memory));
+    assert_eq!(newer, older);
 }
 
 /// The system says that it has taken the bytes, and has not.
@@ -310,12 +339,13 @@ fn no_room_on_the_disk() {
 
 #[test]
 fn the_mode_stays() {
-    let saving = Saving::of("mode", 10);
-    for mode in [0o600, 0o640, 0o664, 0o755] {
-        saving.put_back();
-        fs::set_permissions(saving.take(), Permissions::from_mode(mode)).unwrap();
-        saving.expect_next_save_works();
-        assert_eq!(fs::metadata(saving.take()).unwrap().mode() & 0o7777, mode);
+    for saving in Saving::in_both_editions("mode", 10) {
+        for mode in [0o600, 0o640, 0o664, 0o755] {
+            saving.put_back();
+            fs::set_permissions(saving.take(), Permissions::from_mode(mode)).unwrap();
+            saving.expect_next_save_works();
+            assert_eq!(fs::metadata(saving.take()).unwrap().mode() & 0o7777, mode);
+        }
     }
 }
 

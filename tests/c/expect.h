@@ -53,17 +53,27 @@ static inline void expected_frames(const uint8_t *file, struct opening *o)
         }
 }
 
+/* The refusal of a header, or 0 and its edition. */
+static inline uint32_t expected_header(const uint8_t *file, size_t len, enum edition *edition)
+{
+    if (len < MAGIC_FIELD)
+        return 1;
+    for (*edition = NEWER; *edition < EDITIONS; ++*edition)
+        if (memcmp(file, editions[*edition].magic, MAGIC_TOLD) == 0)
+            return len < editions[*edition].sections;
+    return 2;
+}
+
 /* The refusal, or 0 and the opening. */
 static inline uint32_t expected_opening(const uint8_t *file, size_t len, struct opening *o)
 {
-    size_t at = 50, s, i, j;
+    enum edition edition;
+    uint32_t number = expected_header(file, len, &edition);
+    size_t at, s, i, j;
     memset(o, 0, sizeof *o);
-    if (len < 30)
-        return 1;
-    if (memcmp(file, "Vocaloid Motion Data 0002", 26) != 0)
-        return 2;
-    if (len < 50)
-        return 1;
+    if (number != 0)
+        return number;
+    at = editions[edition].sections;
     for (s = 0; s < SECTIONS; s++) {
         uint32_t count;
         o->places[s] = len;

@@ -1,5 +1,6 @@
 /*
- * Saving and joining, through the C interface: every byte of every output, against an encoder of the test's own.
+ * Saving, in both editions, and joining, through the C interface: every byte of every output, against an encoder of the
+ * test's own.
  *
  * Not tried: refusal 11 of joining, which needs two files with more than 4,294,967,295 records of a kind between them; the
  * smallest such pair has 36 GiB.
@@ -46,6 +47,15 @@ static void export_into(const struct bytes *file, uint32_t number, const struct 
     expect_lent("file", &lent_first, file->at, file->len);
 }
 
+static void older_into(const struct bytes *file, uint32_t number, const struct bytes *expected, size_t out_len)
+{
+    uint8_t *f = lend(&lent_first, file->at, file->len), *out = lend_unwritten(&lent_out, out_len);
+    uint64_t *written = lend_unwritten(&lent_slot, sizeof *written);
+    expect_output("export_older_animation", vmd_export_older_animation(f, file->len, out, out_len, written), number,
+                  expected, out_len);
+    expect_lent("file", &lent_first, file->at, file->len);
+}
+
 static void join_into(const struct bytes *first, const struct bytes *second, uint32_t number, const struct bytes *expected,
                       size_t out_len)
 {
@@ -74,6 +84,13 @@ static void size_of_export(const struct bytes *file, uint32_t number, uint64_t s
     expect_lent("file", &lent_first, file->at, file->len);
 }
 
+static void size_of_older(const struct bytes *file, uint32_t number, uint64_t size)
+{
+    uint8_t *f = lend(&lent_first, file->at, file->len);
+    expect_size("export_older_size", vmd_export_older_size(f, file->len, lend_unwritten(&lent_slot, 8)), number, size);
+    expect_lent("file", &lent_first, file->at, file->len);
+}
+
 static void size_of_join(const struct bytes *first, const struct bytes *second, uint32_t number, uint64_t size)
 {
     uint8_t *f = lend(&lent_first, first->at, first->len), *s = lend(&lent_second, second->at, second->len);
@@ -82,7 +99,7 @@ static void size_of_join(const struct bytes *first, const struct bytes *second, 
     expect_lent("second file", &lent_second, second->at, second->len);
 }
 
-/* An export or join that is to be these bytes: into an output of just this length, longer, shorter, and of no length. */
+/* A file that is to be these bytes: into an output of just this length, longer, shorter, and of no length. */
 static void try_export(const struct bytes *file, const struct bytes *expected)
 {
     size_of_export(file, VMD_OK, expected->len);
@@ -90,6 +107,26 @@ static void try_export(const struct bytes *file, const struct bytes *expected)
     export_into(file, VMD_OK, expected, expected->len + 100);
     export_into(file, VMD_OUTPUT_TOO_SHORT, NULL, expected->len - 1);
     export_into(file, VMD_OUTPUT_TOO_SHORT, NULL, 0);
+}
+
+static void try_older(const struct bytes *file, const struct bytes *expected)
+{
+    size_of_older(file, VMD_OK, expected->len);
+    older_into(file, VMD_OK, expected, expected->len);
+    older_into(file, VMD_OK, expected, expected->len + NARROWER);
+    older_into(file, VMD_OK, expected, expected->len + 100);
+    older_into(file, VMD_OUTPUT_TOO_SHORT, NULL, expected->len - 1);
+    older_into(file, VMD_OUTPUT_TOO_SHORT, NULL, 0);
+}
+
+/* One that is refused, whatever the output's length; where it is not, the older file would have this many bytes. */
+static void try_older_refused(const struct bytes *file, uint32_t number, size_t len)
+{
+    size_of_older(file, number, 0);
+    older_into(file, number, NULL, 0);
+    older_into(file, number, NULL, len - 1);
+    older_into(file, number, NULL, len);
+    older_into(file, number, NULL, len + 100);
 }
 
 static void try_join(const struct bytes *first, const struct bytes *second, const struct bytes *expected)
@@ -103,18 +140,23 @@ static void try_join(const struct bytes *first, const struct bytes *second, cons
 
 /* ---- the samples */
 
-enum { MOST_SAMPLES = 20 };
+enum { MOST_SAMPLES = 24 };
 
 static struct sample samples[MOST_SAMPLES];
 static size_t n_samples;
 
-static struct sample *add(const char *name, const struct take *means, enum manner manner)
+static struct sample *add_in(enum edition edition, const char *name, const struct take *means, enum manner manner)
 {
     struct sample *s = &samples[n_samples++];
     s->name = name;
     s->means = *means;
-    encode(&s->file, means, manner);
+    encode_in(&s->file, edition, means, manner);
     return s;
+}
+
+static struct sample *add(const char *name, const struct take *means, enum manner manner)
+{
+    return add_in(NEWER, name, means, manner);
 }
 
 /* Sections left out at the end, counts that no section can have, bytes over: what each means is told here by hand. */
@@ -137,6 +179,25 @@ static void add_lenient_samples(void)
     memset(s->means.counts + 4, 0, 2 * sizeof *s->means.counts);
 
     s = add("bytes after the last property frame", &whole, RAW);
+    put(&s->file, s->file.at, 50);
+}
+
+static void add_older_samples(void)
+{
+    struct take t = empty_take(), whole = distinct_take(0, 1, 1, 2, 2, 2, 2);
+    struct sample *s = add_in(OLDER, "start,0 of the older edition", &t, CANONICAL);
+    s->file.len = 44;
+    t = distinct_take(10, 3, 2, 3, 2, 3, 4);
+    add_in(OLDER, "six sections of the older edition", &t, RAW);
+    t = distinct_take(9, 0, 0, 0, 0, 0, 3);
+    add_in(OLDER, "an older leg", &t, CANONICAL);
+    t = distinct_take(10, 1, 0, 0, 0, 0, 0);
+    s = add_in(OLDER, "an older bone, and no counts after it", &t, RAW);
+    s->file.len = 40 + 4 + 111;
+    s = add_in(OLDER, "an older camera count that is too large, and no model name", &whole, RAW);
+    memcpy(s->file.at + 40 + 4 + 111 + 4 + 23, "\x03\0\0\x01", 4);
+    memset(s->means.counts + 2, 0, 4 * sizeof *s->means.counts);
+    s = add_in(OLDER, "bytes after the last property frame of an older take", &whole, RAW);
     put(&s->file, s->file.at, 50);
 }
 
@@ -167,6 +228,7 @@ static void make_samples(void)
     t = distinct_take(0, 0, 0, 0, 3, 3, 0);
     add("lights and self-shadows", &t, RAW);
     add_lenient_samples();
+    add_older_samples();
 }
 
 /* ---- what is expected of all of them */
@@ -186,6 +248,44 @@ static void exports(void)
     }
 }
 
+/* What the library writes in the older edition: widened it is the export, it reads as the take, and converts to itself. */
+static void older_laws(const struct sample *s)
+{
+    struct bytes exported, older, widened;
+    uint64_t len = 0;
+    expect_number("export", vmd_export_animation(s->file.at, s->file.len, exported.at, sizeof exported.at, &len), VMD_OK);
+    exported.len = len;
+    expect_number("older", vmd_export_older_animation(s->file.at, s->file.len, older.at, sizeof older.at, &len), VMD_OK);
+    older.len = len;
+    widen(&widened, &older);
+    expect_number("widened length", widened.len, exported.len);
+    expect_bytes("widened", widened.at, exported.at, exported.len);
+    field_by_field(&s->means, older.at, older.len);
+    try_export(&older, &exported);
+    try_older(&older, &older);
+}
+
+/* The older edition of each sample that it can hold; the others are 15. */
+static void older_exports(void)
+{
+    size_t k;
+    for (k = 0; k < n_samples; k++) {
+        const struct sample *s = &samples[k];
+        size_t len = canonical_size(&s->means) - 10;
+        struct bytes expected;
+        trial("older edition of %s", s->name);
+        if (s->means.model.len > 10) {
+            try_older_refused(&s->file, VMD_MODEL_NAME_TOO_LONG, len);
+            continue;
+        }
+        encode_in(&expected, OLDER, &s->means, CANONICAL);
+        expect_number("the test's own size", expected.len, len);
+        try_older(&s->file, &expected);
+        trial("older edition of %s, read", s->name);
+        older_laws(s);
+    }
+}
+
 /* Every float of a record is each odd one in turn. */
 static void odd_floats_anywhere(void)
 {
@@ -197,6 +297,8 @@ static void odd_floats_anywhere(void)
         encode(&expected, &t, CANONICAL);
         trial("odd floats from the %zuth on", n);
         try_export(&b, &expected);
+        encode_in(&expected, OLDER, &t, CANONICAL);
+        try_older(&b, &expected);
         encode(&expected, &both, CANONICAL);
         try_join(&b, &b, &expected);
     }
@@ -273,11 +375,22 @@ static void many_records(void)
     encode_times(&first, &t, 60, RAW);
     encode_times(&expected, &t, 60, CANONICAL);
     try_export(&first, &expected);
+    encode_times_in(&expected, OLDER, &t, 60, CANONICAL);
+    try_older(&first, &expected);
+    trial("60 times the records of an older take");
+    encode_times_in(&first, OLDER, &t, 60, RAW);
+    try_older(&first, &expected);
+    encode_times(&expected, &t, 60, CANONICAL);
+    try_export(&first, &expected);
     trial("40 times the records of a take, and 50 times");
     encode_times(&first, &t, 40, RAW);
     encode_times(&second, &t, 50, RAW);
     encode_times(&expected, &t, 90, CANONICAL);
     try_join(&first, &second, &expected);
+    trial("40 times the records of a take, and 50 times those of an older one");
+    encode_times_in(&second, OLDER, &t, 50, RAW);
+    try_join(&first, &second, &expected);
+    try_join(&second, &first, &expected);
 }
 
 /* ---- what the paper tells in figures and words */
@@ -312,6 +425,32 @@ static void bare_take(void)
     expect_number("written", written, 74);
     expect_bytes("header", out, file, 50);
     expect_bytes("counts", out + 50, zeros, 24);
+}
+
+/* The older edition in figures: start,0 of 44 bytes, saved as 74 and as 64; its name is padded to 10. */
+static void bare_older_take(void)
+{
+    static const uint8_t file[44] = "Vocaloid Motion Data file\0wxyzname\0past", zeros[24];
+    uint8_t out[80];
+    uint64_t n = 0;
+    trial("start,0 of the older edition");
+    expect_number("export_size", vmd_export_size(file, 44, &n), VMD_OK);
+    expect_number("export_size", n, 74);
+    expect_number("export", vmd_export_animation(file, 44, out, 74, &n), VMD_OK);
+    expect_number("written", n, 74);
+    expect_bytes("magic", out, "Vocaloid Motion Data 0002\0\0\0\0", 30);
+    expect_bytes("model name", out + 30, "name", 4);
+    expect_bytes("after it", out + 34, zeros, 16);
+    expect_bytes("counts", out + 50, zeros, 24);
+    expect_number("export_older_size", vmd_export_older_size(file, 44, &n), VMD_OK);
+    expect_number("export_older_size", n, 64);
+    memset(out, UNWRITTEN, sizeof out);
+    expect_number("export_older_animation", vmd_export_older_animation(file, 44, out, 80, &n), VMD_OK);
+    expect_number("written", n, 64);
+    expect_bytes("older magic", out, "Vocaloid Motion Data file\0\0\0\0", 30);
+    expect_bytes("older model name", out + 30, "name\0\0\0\0\0", 10);
+    expect_bytes("older counts", out + 40, zeros, 24);
+    expect_unwritten("after the older counts", out + 64, 16);
 }
 
 /* Perspective bytes 0, 1, 2 are written 0, 1, 1, and every flag but 0 as 1; 0x41 0x00 0x42 is written 0x41 and zeros. */
@@ -439,6 +578,37 @@ static void frames_of_joined_samples(void)
 
 /* ---- the joined model name */
 
+static void expect_joined_model(const struct bytes *first, const struct bytes *second, const uint64_t part[3])
+{
+    uint8_t *f = lend(&lent_first, first->at, first->len), *s = lend(&lent_second, second->at, second->len);
+    vmd_joined_model(f, first->len, s, second->len, lend_unwritten(&lent_slot, 24));
+    expect_lent("joined_model", &lent_slot, part, 24);
+    expect_lent("first file", &lent_first, first->at, first->len);
+    expect_lent("second file", &lent_second, second->at, second->len);
+}
+
+/* Of files of these editions. Each has a bone, so that no zero comes after a name that fills its field. */
+static void try_joined_model(const char *first_name, enum edition first_edition, const char *second_name,
+                             enum edition second_edition, const uint64_t part[3])
+{
+    struct take t = distinct_take(0, 1, 0, 0, 0, 0, 0), u = distinct_take(0, 1, 1, 0, 0, 0, 0);
+    struct bytes first, second, out;
+    t.model = named(first_name);
+    u.model = named(second_name);
+    encode_in(&first, first_edition, &t, RAW);
+    encode_in(&second, second_edition, &u, RAW);
+    trial("model names '%s', %s, and '%s', %s", first_name, editions[first_edition].name, second_name,
+          editions[second_edition].name);
+    expect_joined_model(&first, &second, part);
+    join(&first, &second, &out);
+    t.model = named(first_name[0] != '\0' ? first_name : second_name);
+    expect_bytes("model name in the join", out.at + 30, t.model.at, 20);
+    first.len = editions[first_edition].sections;
+    second.len = editions[second_edition].sections;
+    trial("the same, of the headers alone");
+    expect_joined_model(&first, &second, part);
+}
+
 static void joined_models(void)
 {
     static const struct {
@@ -446,88 +616,144 @@ static void joined_models(void)
         uint64_t part[3];
     } rows[] = {
         {"one", "two", {0, 30, 3}}, {"one", "", {0, 30, 3}}, {"", "second", {1, 30, 6}}, {"", "", {0, 0, 0}},
+        {"1234567890", "x", {0, 30, 10}}, {"", "1234567890", {1, 30, 10}}, {"1234567890", "abcdefghij", {0, 30, 10}},
         {"12345678901234567890", "x", {0, 30, 20}}, {"", "12345678901234567890", {1, 30, 20}},
     };
     size_t k;
-    for (k = 0; k < sizeof rows / sizeof *rows; k++) {
-        struct take t = distinct_take(0, 1, 0, 0, 0, 0, 0), u = distinct_take(0, 0, 1, 0, 0, 0, 0);
-        struct bytes first, second, out;
-        uint8_t *f, *s;
-        t.model = named(rows[k].first);
-        u.model = named(rows[k].second);
-        encode(&first, &t, RAW);
-        encode(&second, &u, RAW);
-        f = lend(&lent_first, first.at, first.len);
-        s = lend(&lent_second, second.at, second.len);
-        trial("model names '%s' and '%s'", rows[k].first, rows[k].second);
-        vmd_joined_model(f, first.len, s, second.len, lend_unwritten(&lent_slot, 24));
-        expect_lent("joined_model", &lent_slot, rows[k].part, sizeof rows[k].part);
-        expect_lent("first file", &lent_first, first.at, first.len);
-        expect_lent("second file", &lent_second, second.at, second.len);
-        join(&first, &second, &out);
-        t.model = named(rows[k].first[0] != '\0' ? rows[k].first : rows[k].second);
-        expect_bytes("model name in the join", out.at + 30, t.model.at, 20);
+    enum edition first, second;
+    for (k = 0; k < sizeof rows / sizeof *rows; k++)
+        for (first = NEWER; first < EDITIONS; first++)
+            for (second = NEWER; second < EDITIONS; second++)
+                if (strlen(rows[k].first) <= editions[first].model_width
+                    && strlen(rows[k].second) <= editions[second].model_width)
+                    try_joined_model(rows[k].first, first, rows[k].second, second, rows[k].part);
+}
+
+/* A file whose header is refused has no model name, also where its bytes are there. */
+static void joined_models_of_refused_headers(void)
+{
+    static const uint64_t first[3] = {0, 30, 4}, second[3] = {1, 30, 4}, neither[3] = {0, 0, 0};
+    struct name name = named("name");
+    struct bytes good, bad, cut, none;
+    enum edition edition;
+    none.len = 0;
+    for (edition = NEWER; edition < EDITIONS; edition++) {
+        good.len = 0;
+        put_header_of(&good, edition, &name, RAW);
+        bad = cut = good;
+        bad.at[24] = '3';
+        cut.len -= 1;
+        trial("model names of files whose header is refused, %s edition", editions[edition].name);
+        expect_joined_model(&bad, &good, second);
+        expect_joined_model(&cut, &good, second);
+        expect_joined_model(&good, &bad, first);
+        expect_joined_model(&cut, &bad, neither);
+        expect_joined_model(&bad, &cut, neither);
+        expect_joined_model(&none, &none, neither);
     }
-    trial("model names of files whose header is refused");
-    {
-        uint64_t part[3] = {7, 7, 7};
-        static const uint8_t good[50] = "Vocaloid Motion Data 0002\0\0\0\0\0name";
-        static const uint8_t bad[50] = "Vocaloid Motion Data 0003\0\0\0\0\0name";
-        vmd_joined_model(bad, 50, good, 50, part);
-        expect_number("which", part[0], 1);
-        expect_number("place", part[1], 30);
-        expect_number("length", part[2], 4);
-        vmd_joined_model(good, 49, bad, 50, part);
-        expect_number("none", part[0] + part[1] + part[2], 0);
-        vmd_joined_model(NULL, 0, NULL, 0, part);
-        expect_number("none", part[0] + part[1] + part[2], 0);
-    }
+}
+
+/* ---- the model name that the older edition can hold */
+
+/* Up to 10 bytes, whatever stands after them in their field; 15 from 11 on. An older file has no longer one. */
+static void names_up_to_ten(void)
+{
+    size_t n;
+    int manner;
+    for (n = 0; n <= 20; n++)
+        for (manner = CANONICAL; manner <= RAW; manner++) {
+            struct take t = distinct_take(n, 2, 1, 1, 1, 1, 3);
+            struct bytes b, expected;
+            trial("a model name of %zu bytes, manner %d", n, manner);
+            encode(&b, &t, (enum manner)manner);
+            if (n > 10) {
+                try_older_refused(&b, VMD_MODEL_NAME_TOO_LONG, b.len - 10);
+                continue;
+            }
+            encode_in(&expected, OLDER, &t, CANONICAL);
+            try_older(&b, &expected);
+            trial("an older model name of %zu bytes, manner %d", n, manner);
+            encode_in(&b, OLDER, &t, (enum manner)manner);
+            try_older(&b, &expected);
+        }
 }
 
 /* ---- refusals: the first file's before the second's, both before 13 */
 
-static void refusals(void)
+static void refusals(enum edition edition)
 {
     struct take t = distinct_take(5, 2, 1, 1, 1, 1, 3);
     struct bytes files[3], expected; /* files[n] is refused with n */
     struct take both = joined(&t, &t);
     uint32_t f, s;
-    encode(&files[0], &t, RAW);
+    int k;
+    encode_in(&files[0], edition, &t, RAW);
     files[1] = files[2] = files[0];
     files[1].len -= 1;
     files[2].at[0] = 'v';
     encode(&expected, &both, CANONICAL);
     for (f = 0; f < 3; f++) {
         if (f > 0) {
-            trial("export of a file that is refused with %u", f);
+            trial("export of a file of the %s edition that is refused with %u", editions[edition].name, f);
             size_of_export(&files[f], f, 0);
             export_into(&files[f], f, NULL, 4096);
             export_into(&files[f], f, NULL, 0);
+            try_older_refused(&files[f], f, 4096);
         }
         for (s = 0; s < 3; s++) {
             uint32_t number = f != 0 ? f : s;
-            trial("join of files that are refused with %u and %u", f, s);
+            trial("join of files of the %s edition that are refused with %u and %u", editions[edition].name, f, s);
             size_of_join(&files[f], &files[s], number, expected.len);
             join_into(&files[f], &files[s], number, &expected, 4096);
             join_into(&files[f], &files[s], number != 0 ? number : VMD_OUTPUT_TOO_SHORT, NULL, 0);
         }
     }
-    trial("no bytes at all");
-    files[1].len = 0;
-    size_of_export(&files[1], VMD_ENDS_EARLY, 0);
-    export_into(&files[1], VMD_ENDS_EARLY, NULL, 100);
-    join_into(&files[1], &files[2], VMD_ENDS_EARLY, NULL, 100);
-    join_into(&files[2], &files[1], VMD_MAGIC_DIFFERS, NULL, 100);
+    for (k = 0; k < 3; k++) {
+        files[1].len = k == 0 ? editions[edition].sections - 1 : k == 1 ? MAGIC_FIELD : 0;
+        trial("%zu bytes of the %s edition", files[1].len, editions[edition].name);
+        size_of_export(&files[1], VMD_ENDS_EARLY, 0);
+        export_into(&files[1], VMD_ENDS_EARLY, NULL, 100);
+        try_older_refused(&files[1], VMD_ENDS_EARLY, 100);
+        size_of_join(&files[1], &files[2], VMD_ENDS_EARLY, 0);
+        size_of_join(&files[2], &files[1], VMD_MAGIC_DIFFERS, 0);
+        join_into(&files[1], &files[2], VMD_ENDS_EARLY, NULL, 100);
+        join_into(&files[2], &files[1], VMD_MAGIC_DIFFERS, NULL, 100);
+        join_into(&files[0], &files[1], VMD_ENDS_EARLY, NULL, 4096);
+    }
+}
+
+/* The file's own refusal comes before 15, wherever in the file it is met; 15 comes before 13. */
+static void refusals_of_long_names(void)
+{
+    struct take t = distinct_take(11, 2, 1, 1, 1, 1, 3);
+    struct bytes whole, b;
+    struct opening o;
+    size_t n;
+    encode(&whole, &t, RAW);
+    for (n = whole.len; n-- > 0;) {
+        uint32_t number;
+        b = whole;
+        b.len = n;
+        number = expected_opening(b.at, n, &o);
+        trial("a file with a model name of 11 bytes, cut after %zu bytes", n);
+        try_older_refused(&b, number != VMD_OK ? number : VMD_MODEL_NAME_TOO_LONG, whole.len - 10);
+    }
+    for (n = 0; n < 26; n++) {
+        b = whole;
+        b.at[n] ^= 1;
+        trial("a file with a model name of 11 bytes, byte %zu of its magic changed", n);
+        try_older_refused(&b, VMD_MAGIC_DIFFERS, whole.len - 10);
+    }
 }
 
 /* A file cut anywhere is exported as what it means, or refused. */
-static void cut_anywhere(void)
+static void cut_anywhere(enum edition edition)
 {
     struct take t = distinct_take(9, 2, 2, 2, 2, 2, 3), u = distinct_take(0, 1, 0, 0, 0, 0, 2);
     struct bytes b, other, expected;
     struct opening o;
     size_t n, s;
-    encode(&b, &t, RAW);
+    encode_in(&b, edition, &t, RAW);
     encode(&other, &u, RAW);
     for (n = b.len; n-- > 0;) {
         struct take cut = t, both;
@@ -536,16 +762,19 @@ static void cut_anywhere(void)
         number = expected_opening(b.at, n, &o);
         for (s = 0; s < SECTIONS; s++)
             cut.counts[s] = o.counts[s];
-        trial("a file cut after %zu bytes", n);
+        trial("a file of the %s edition cut after %zu bytes", editions[edition].name, n);
         if (number != VMD_OK) {
             size_of_export(&b, number, 0);
             export_into(&b, number, NULL, 4096);
+            try_older_refused(&b, number, 4096);
             join_into(&b, &other, number, NULL, 4096);
             join_into(&other, &b, number, NULL, 4096);
             continue;
         }
         encode(&expected, &cut, CANONICAL);
         try_export(&b, &expected);
+        encode_in(&expected, OLDER, &cut, CANONICAL);
+        try_older(&b, &expected);
         both = joined(&cut, &u);
         encode(&expected, &both, CANONICAL);
         try_join(&b, &other, &expected);
@@ -557,8 +786,10 @@ static void cut_anywhere(void)
 
 int main(void)
 {
+    enum edition edition;
     make_samples();
     exports();
+    older_exports();
     odd_floats_anywhere();
     joins();
     empty_takes_on_either_side();
@@ -566,12 +797,18 @@ int main(void)
     many_records();
     one_bone_each();
     bare_take();
+    bare_older_take();
     written_forms();
     legs_stay_off();
     joined_frames();
     frames_of_joined_samples();
     joined_models();
-    refusals();
-    cut_anywhere();
+    joined_models_of_refused_headers();
+    names_up_to_ten();
+    refusals_of_long_names();
+    for (edition = NEWER; edition < EDITIONS; edition++) {
+        refusals(edition);
+        cut_anywhere(edition);
+    }
     return finished("export_join");
 }

@@ -193,10 +193,11 @@ static void try_model_name(const uint8_t *file, size_t len)
 {
     struct view v = {NULL, 0, NULL, NULL, NULL, 0};
     uint64_t part[2];
-    int header = len >= 50 && memcmp(file, "Vocaloid Motion Data 0002", 26) == 0;
+    enum edition edition;
+    int header = expected_header(file, len, &edition) == VMD_OK;
     v.file = lend(&lent_file, file, len);
     v.len = len;
-    expected_name(&v, header ? v.file + 30 : NULL, 20, part);
+    expected_name(&v, header ? v.file + 30 : NULL, header ? editions[edition].model_width : 0, part);
     vmd_model_name(v.file, len, lend_unwritten(&lent_slot, sizeof part));
     expect_part_slot("model_name", part);
     expect_lent("file", &lent_file, file, len);
@@ -213,14 +214,14 @@ static uint32_t try_file(const uint8_t *file, size_t len)
     return number;
 }
 
-/* ---- takes of the paper, with what it says of each */
+/* ---- takes of the paper, with what it says of each: in the older edition it is the same */
 
 enum { PLAIN, FIRST_BYTES, FIRST_BYTES_A };
 
 static const struct {
     const char *name;
     int kind;
-    size_t len; /* of FIRST_BYTES: of the magic and the zeros after it; of FIRST_BYTES_A: of bytes 0x41 */
+    size_t len; /* of FIRST_BYTES: of the magic and the zeros after it; of FIRST_BYTES_A: of bytes 0x41; else the newer header's */
     int n_counts;
     uint32_t counts[6];
     int over; /* bytes after the counts */
@@ -264,7 +265,7 @@ static const struct {
     {"largest property count", PLAIN, 50, 6, {0, 0, 0, 0, 0, 0xFFFFFFFF}, 200, 1},
 };
 
-static void takes_of_the_paper(void)
+static void takes_of_the_paper(enum edition edition)
 {
     size_t k;
     for (k = 0; k < sizeof paper_takes / sizeof *paper_takes; k++) {
@@ -272,37 +273,40 @@ static void takes_of_the_paper(void)
         struct bytes b;
         int i;
         b.len = 0;
-        put_header(&b, &none, CANONICAL);
+        put_header_of(&b, edition, &none, CANONICAL);
+        memset(b.at + b.len, 0, 80);
         if (paper_takes[k].kind == FIRST_BYTES_A)
             memset(b.at, 0x41, 80);
-        b.len = paper_takes[k].len;
+        if (paper_takes[k].kind != PLAIN)
+            b.len = paper_takes[k].len;
         for (i = 0; i < paper_takes[k].n_counts; i++)
             put_u32(&b, paper_takes[k].counts[i]);
         for (i = 0; i < paper_takes[k].over; i++)
             put_byte(&b, 0);
-        trial("takes of the paper: %s", paper_takes[k].name);
+        trial("takes of the paper, %s edition: %s", editions[edition].name, paper_takes[k].name);
         expect_number("refusal", try_file(b.at, b.len), paper_takes[k].number);
     }
 }
 
 /* Where the places are told in words: after the count, or the file's length. */
-static void places_of_empty_sections(void)
+static void places_of_empty_sections(enum edition edition)
 {
     static const uint32_t oversized[3] = {0, 0, 1};
+    static const uint64_t told[EDITIONS][3] = {{54, 58, 102}, {44, 48, 92}};
     struct name none = named("");
     struct bytes b;
     uint32_t counts[6];
     uint64_t places[6], totals[3];
     size_t s;
     b.len = 0;
-    put_header(&b, &none, CANONICAL);
+    put_header_of(&b, edition, &none, CANONICAL);
     put_u32s(&b, oversized, 3);
     put(&b, b.at, 40);
-    trial("places of empty sections");
+    trial("places of empty sections, %s edition", editions[edition].name);
     expect_number("parse_animation", vmd_parse_animation(b.at, b.len, NULL, 0, counts, places, totals), VMD_OK);
     for (s = 0; s < SECTIONS; s++) {
         expect_number("count", counts[s], 0);
-        expect_number("place", places[s], s == 0 ? 54 : s == 1 ? 58 : 102);
+        expect_number("place", places[s], told[edition][s < 2 ? s : 2]);
     }
     expect_number("IK states", totals[VMD_TOTAL_IK_STATES], 0);
     expect_number("smallest frame", totals[VMD_TOTAL_SMALLEST_FRAME], 0);
@@ -311,17 +315,17 @@ static void places_of_empty_sections(void)
 
 /* ---- takes field by field */
 
-static void six_sections(void)
+static void six_sections(enum edition edition)
 {
-    struct take t = distinct_take(20, 5, 4, 6, 3, 4, 6);
+    struct take t = distinct_take(editions[edition].model_width, 5, 4, 6, 3, 4, 6);
     struct take leg = leg_take();
     struct bytes b;
-    trial("six sections, field by field");
-    encode(&b, &t, RAW);
+    trial("six sections, field by field, %s edition", editions[edition].name);
+    encode_in(&b, edition, &t, RAW);
     field_by_field(&t, b.at, b.len);
     try_file(b.at, b.len);
-    trial("a leg that goes off, field by field");
-    encode(&b, &leg, CANONICAL);
+    trial("a leg that goes off, field by field, %s edition", editions[edition].name);
+    encode_in(&b, edition, &leg, CANONICAL);
     field_by_field(&leg, b.at, b.len);
     try_file(b.at, b.len);
 }
@@ -418,40 +422,40 @@ static void frames_of_many_records(void)
 
 /* ---- files that are damaged in every place */
 
-static void cut_anywhere(void)
+static void cut_anywhere(enum edition edition)
 {
     struct take t = distinct_take(7, 2, 3, 2, 2, 3, 4);
     struct bytes b;
     size_t n;
-    encode(&b, &t, RAW);
+    encode_in(&b, edition, &t, RAW);
     for (n = 0; n <= b.len; n++) {
-        trial("six sections cut after %zu bytes", n);
+        trial("six sections of the %s edition cut after %zu bytes", editions[edition].name, n);
         try_file(b.at, n);
     }
     put(&b, b.at, 30);
-    trial("six sections with 30 bytes over");
+    trial("six sections of the %s edition with 30 bytes over", editions[edition].name);
     expect_number("refusal", try_file(b.at, b.len), VMD_OK);
 }
 
-static void any_byte_changed(void)
+static void any_byte_changed(enum edition edition)
 {
     static const uint8_t values[] = {0, 1, 2, 0x7F, 0x80, 0xFF};
     struct take t = distinct_take(7, 2, 3, 2, 2, 3, 4);
     struct bytes b;
     struct opening o;
     size_t n, k;
-    encode(&b, &t, RAW);
+    encode_in(&b, edition, &t, RAW);
     for (n = 0; n < b.len; n++)
         for (k = 0; k < sizeof values; k++) {
             uint8_t kept = b.at[n];
             uint32_t number;
             b.at[n] = values[k];
-            trial("six sections with byte %zu made %u", n, values[k]);
+            trial("six sections of the %s edition with byte %zu made %u", editions[edition].name, n, values[k]);
             number = try_opening(b.at, b.len, &o);
             try_model_name(b.at, b.len);
             if (n < 26 && values[k] != kept)
                 expect_number("refusal", number, VMD_MAGIC_DIFFERS);
-            if (n >= 26 && n < 50)
+            if (n >= 26 && n < editions[edition].sections)
                 expect_number("refusal", number, VMD_OK);
             b.at[n] = kept;
         }
@@ -528,15 +532,15 @@ static void places_anywhere(void)
 }
 
 /* More records of each kind than one byte can count: every one is fetched. */
-static void many_records(void)
+static void many_records(enum edition edition)
 {
-    struct take t = distinct_take(11, 5, 6, 5, 6, 7, 8);
+    struct take t = distinct_take(10, 5, 6, 5, 6, 7, 8);
     static struct bytes b;
     struct opening o;
     struct view v;
     size_t i, j;
-    encode_times(&b, &t, 60, RAW);
-    trial("60 times the records of a take");
+    encode_times_in(&b, edition, &t, 60, RAW);
+    trial("60 times the records of a take, %s edition", editions[edition].name);
     expect_number("refusal", try_opening(b.at, b.len, &o), VMD_OK);
     expect_number("bones", o.counts[0], 300);
     v.file = lend(&lent_file, b.at, b.len);
@@ -556,6 +560,131 @@ static void many_records(void)
             fetch_state(&v, i, j);
     }
     expect_lent("file", &lent_file, b.at, b.len);
+}
+
+/* ---- the older edition */
+
+/* The older magic and zeros, so many bytes of them in all. */
+static void older_lengths(void)
+{
+    static const struct {
+        size_t len;
+        uint32_t number;
+    } rows[] = {
+        {0, 1}, {25, 1}, {26, 1}, {29, 1}, {30, 1}, {39, 1}, {40, 1}, {43, 1}, {44, 0}, {45, 1}, {47, 1}, {48, 0}, {50, 1},
+        {53, 1}, {54, 1}, {64, 0},
+    };
+    struct name none = named("");
+    struct bytes b;
+    size_t k;
+    b.len = 0;
+    put_header_of(&b, OLDER, &none, CANONICAL);
+    memset(b.at + b.len, 0, 64);
+    for (k = 0; k < sizeof rows / sizeof *rows; k++) {
+        trial("the older magic and zeros, %zu bytes", rows[k].len);
+        expect_number("refusal", try_file(b.at, rows[k].len), rows[k].number);
+    }
+}
+
+/* Only the magics themselves are magics, no mixture of their bytes. */
+static void mixed_magics(void)
+{
+    struct take t = distinct_take(9, 1, 1, 1, 1, 1, 2);
+    struct bytes b;
+    unsigned mixture, i;
+    for (mixture = 0; mixture < 16; mixture++) {
+        uint32_t number;
+        encode(&b, &t, RAW);
+        for (i = 0; i < 4; i++)
+            if (mixture >> i & 1)
+                b.at[21 + i] = (uint8_t)editions[OLDER].magic[21 + i];
+        trial("a magic that ends with '%.4s'", (const char *)b.at + 21);
+        number = try_file(b.at, b.len);
+        if (mixture > 0 && mixture < 15)
+            expect_number("refusal", number, VMD_MAGIC_DIFFERS);
+    }
+}
+
+static void expect_model_name(const struct bytes *b, size_t len, uint64_t place, uint64_t name_len)
+{
+    uint64_t part[2] = {7, 7};
+    vmd_model_name(lend(&lent_file, b->at, len), len, part);
+    expect_number("model name's place", part[0], place);
+    expect_number("model name's length", part[1], name_len);
+}
+
+/* One of ten bytes ends before the bone count, which does not begin with a zero here. With 40 bytes the name is there. */
+static void older_model_names(void)
+{
+    size_t n;
+    int manner;
+    for (n = 0; n <= 10; n++)
+        for (manner = CANONICAL; manner <= RAW; manner++) {
+            struct take t = distinct_take(n, 3, 0, 0, 0, 0, 0);
+            struct bytes b;
+            encode_in(&b, OLDER, &t, (enum manner)manner);
+            trial("an older model name of %zu bytes, manner %d", n, manner);
+            expect_number("refusal", try_file(b.at, b.len), VMD_OK);
+            expect_number("the test's own bone count", b.at[40], 3);
+            expect_model_name(&b, b.len, n > 0 ? 30 : 0, n);
+            expect_model_name(&b, 44, n > 0 ? 30 : 0, n);
+            expect_model_name(&b, 40, n > 0 ? 30 : 0, n);
+            expect_model_name(&b, 39, 0, 0);
+            expect_model_name(&b, 30, 0, 0);
+        }
+}
+
+/* An older file opens as its widened file does; places and scratch are 10 less. */
+static void try_widened(const struct bytes *older, struct opening *o)
+{
+    struct bytes newer;
+    uint32_t number;
+    size_t s, i;
+    widen(&newer, older);
+    number = try_opening(newer.at, newer.len, o);
+    for (s = 0; s < SECTIONS; s++)
+        o->places[s] -= NARROWER;
+    for (i = 0; i < o->n_frames; i++)
+        o->frames[i] -= NARROWER;
+    open_with(older->at, older->len, o->n_frames, number, o);
+    open_with(older->at, older->len, o->n_frames + 2, number, o);
+    if (number == VMD_OK)
+        try_fetches(older->at, older->len, o->counts, o->places, o->frames, o->n_frames);
+}
+
+/* Cut anywhere after the header: sections are whole, emptied and missing. And of more records than one byte can count. */
+static void older_places(void)
+{
+    struct take t = distinct_take(10, 2, 3, 2, 2, 3, 4);
+    static struct bytes b;
+    static struct opening o;
+    size_t n;
+    encode_in(&b, OLDER, &t, RAW);
+    for (n = b.len; n >= 40; n--) {
+        b.len = n;
+        trial("an older file cut after %zu bytes, widened", n);
+        try_widened(&b, &o);
+    }
+    encode_times_in(&b, OLDER, &t, 60, RAW);
+    trial("60 times the records of an older take, widened");
+    try_widened(&b, &o);
+    expect_number("property frames", o.n_frames, 240);
+}
+
+/* The opening of a file of the other edition is another file's. */
+static void openings_of_the_other_edition(void)
+{
+    struct take t = distinct_take(10, 3, 3, 3, 3, 3, 4);
+    struct bytes older, newer;
+    struct opening of_older, of_newer;
+    encode_in(&older, OLDER, &t, RAW);
+    widen(&newer, &older);
+    expected_opening(older.at, older.len, &of_older);
+    expected_opening(newer.at, newer.len, &of_newer);
+    trial("an older file with its widened file's opening");
+    try_fetches(older.at, older.len, of_newer.counts, of_newer.places, of_newer.frames, of_newer.n_frames);
+    trial("a widened file with the older one's opening");
+    try_fetches(newer.at, newer.len, of_older.counts, of_older.places, of_older.frames, of_older.n_frames);
 }
 
 /* A slice of no elements is not looked at: its pointer may be null, or lead where nothing can be read. */
@@ -582,18 +711,26 @@ static void slices_of_no_elements(void)
 
 int main(void)
 {
-    takes_of_the_paper();
-    places_of_empty_sections();
-    six_sections();
+    enum edition edition;
+    for (edition = NEWER; edition < EDITIONS; edition++) {
+        takes_of_the_paper(edition);
+        places_of_empty_sections(edition);
+        six_sections(edition);
+        cut_anywhere(edition);
+        any_byte_changed(edition);
+        many_records(edition);
+    }
     flags();
     frames_of_no_records();
     frames_of_one_record();
     frames_of_many_records();
-    cut_anywhere();
-    any_byte_changed();
     openings_of_another_file();
     places_anywhere();
-    many_records();
+    older_lengths();
+    mixed_magics();
+    older_model_names();
+    older_places();
+    openings_of_the_other_edition();
     slices_of_no_elements();
     return finished("reader");
 }

@@ -1,7 +1,8 @@
 /*
  * Replays the original Rust's answers through the C interface: the cases on standard input (tests/c/replay.cases), which
  * oracle/samples.sh writes anew and whose format oracle/README.md has. An answer is compared by its number and its digest.
- * Columns are lent as the list has them, the lowest byte first.
+ * To an older file it is the original's answer to its widened file. Columns are lent as the list has them, the lowest byte
+ * first.
  */
 #include "check.h"
 #include "parts.h"
@@ -12,14 +13,16 @@ static struct fence lent_out, lent_slot, lent_scratch;
 
 /* ---- the list of cases */
 
-enum { OPEN = 1, EXPORT, JOIN, BUILD, KINDS };
+enum { OPEN = 1, EXPORT, JOIN, BUILD, CONVERT, KINDS };
 
 /* How many strings a case of a kind has, and how many such cases there have to be. */
 static const struct {
     const char *name;
     size_t strings;
     unsigned long cases;
-} kinds[KINDS] = {{"", 0, 0}, {"opened", 1, 778}, {"exported", 1, 829}, {"joined", 2, 249}, {"built", SLICES, 391}};
+} kinds[KINDS] = {
+    {"", 0, 0}, {"opened", 1, 1279}, {"exported", 1, 974}, {"joined", 2, 339}, {"built", SLICES, 391}, {"converted", 1, 290},
+};
 
 /* The bytes of an element in each string of a build. */
 static const size_t element_sizes[SLICES] = {1, 1, 4, 1, 4, 1, 1, 1, 1, 4, 4, 4, 4, 1, 4, 4, 4};
@@ -264,6 +267,14 @@ static uint32_t export_of(const struct slice *file, uint8_t *out, size_t out_len
     return answer;
 }
 
+static uint32_t older_export_of(const struct slice *file, uint8_t *out, size_t out_len, uint64_t *slot)
+{
+    const uint8_t *f = lend(&lent[0], file->at, file->len);
+    uint32_t answer = vmd_export_older_animation(f, file->len, out, out_len, slot);
+    expect_lent("file", &lent[0], file->at, file->len);
+    return answer;
+}
+
 static uint32_t join_of(const struct slice files[2], uint8_t *out, size_t out_len, uint64_t *slot)
 {
     const uint8_t *first = lend(&lent[0], files[0].at, files[0].len), *second = lend(&lent[1], files[1].at, files[1].len);
@@ -279,6 +290,7 @@ static uint32_t written(const struct recorded *r)
     uint64_t *slot = lend_unwritten(&lent_slot, sizeof *slot);
     uint32_t answer = r->kind == EXPORT ? export_of(r->strings, out, r->out_len, slot)
         : r->kind == JOIN               ? join_of(r->strings, out, r->out_len, slot)
+        : r->kind == CONVERT            ? older_export_of(r->strings, out, r->out_len, slot)
                                         : build_with(r->strings, out, r->out_len, 0, slot);
     digest_output(answer, slot);
     return answer;

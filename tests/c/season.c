@@ -172,11 +172,16 @@ static void add(struct season *s, const struct bytes *file, const struct additio
 
 static struct bytes file;
 
-static void add_take(struct season *s, const struct take *t, enum manner manner)
+static void add_take_in(struct season *s, enum edition edition, const struct take *t, enum manner manner)
 {
     struct addition a = of_take(t);
-    encode(&file, t, manner);
+    encode_in(&file, edition, t, manner);
     add(s, &file, &a);
+}
+
+static void add_take(struct season *s, const struct take *t, enum manner manner)
+{
+    add_take_in(s, NEWER, t, manner);
 }
 
 /* ---- any numbers */
@@ -250,12 +255,18 @@ static struct take random_take(void)
     return t;
 }
 
+/* Any edition that can hold the take's model name. */
+static enum edition random_edition(const struct take *t)
+{
+    return t->model.len <= editions[OLDER].model_width && random_below(2) ? OLDER : NEWER;
+}
+
 /* A take, whole or damaged. */
 static void add_random(struct season *s)
 {
     struct take t = random_take();
     struct addition a;
-    encode(&file, &t, random_below(2) ? CANONICAL : RAW);
+    encode_in(&file, random_edition(&t), &t, random_below(2) ? CANONICAL : RAW);
     switch (random_below(8)) {
     case 0: file.len = random_below(file.len); break;
     case 1: file.at[random_below(26)] ^= 32; break;
@@ -302,7 +313,7 @@ static void no_takes(void)
 }
 
 /* The numbers are written here, so that they show the slots' places too; the figures stay in the same memory. */
-static void told_in_numbers(void)
+static void told_in_numbers(enum edition edition)
 {
     static const struct season expected = {
         {2, 0, 0, 1, 0, 0, 5, 3, 2, 3, 3, 2},
@@ -313,7 +324,7 @@ static void told_in_numbers(void)
     uint32_t *counts = lend_unwritten(&lent_counts, sizeof expected.counts);
     uint64_t *figures = lend_unwritten(&lent_figures, sizeof expected.figures);
     size_t i;
-    trial("three takes, one of them refused");
+    trial("three takes, one of them refused, the first two of the %s edition", editions[edition].name);
     for (i = 0; i < 2; i++)
         first.bones[i].name = named("a");
     for (i = 0; i < 3; i++)
@@ -321,7 +332,7 @@ static void told_in_numbers(void)
     for (i = 0; i < 5; i++)
         second.bones[i].name = named(names[i]);
     vmd_season_none(counts, figures);
-    encode(&file, &first, RAW);
+    encode_in(&file, edition, &first, RAW);
     vmd_season_add(file.at, file.len, counts, figures);
     vmd_season_add(file.at, 30, counts, figures);
     encode(&file, &second, CANONICAL);
@@ -365,11 +376,12 @@ static void lists(void)
     add_bytes(&s, file.at, 49, &a);
     add_take(&s, &t, RAW);
 
-    trial("the same take forty times");
+    trial("the same take forty times, in both editions");
     s = none();
     t = random_take();
+    t.model = named("ten bytes!");
     for (i = 0; i < 40; i++)
-        add_take(&s, &t, i % 2 ? CANONICAL : RAW);
+        add_take_in(&s, i % 3 ? NEWER : OLDER, &t, i % 2 ? CANONICAL : RAW);
     expect_number("accepted", s.figures[VMD_SEASON_ACCEPTED], 40);
 }
 
@@ -385,7 +397,7 @@ static void orders(void)
     forth = none();
     for (i = 0; i < TAKES; i++) {
         struct take t = random_take();
-        encode(&files[i], &t, RAW);
+        encode_in(&files[i], random_edition(&t), &t, RAW);
         if (i % 7 == 3)
             files[i].len = 53;
         adds[i] = of_damaged(&files[i], &t);
@@ -431,25 +443,25 @@ static void sections_alone(void)
 /* ---- files as others write them, and files that are refused */
 
 /* A small take cut anywhere: what is refused alone, and all of it. */
-static void cut_anywhere(void)
+static void cut_anywhere(enum edition edition)
 {
     struct take t = distinct_take(9, 2, 1, 1, 2, 1, 2);
     struct season refused, all;
     struct addition a;
     size_t n, cuts = 0;
-    encode(&file, &t, RAW);
+    encode_in(&file, edition, &t, RAW);
     trial("cut files");
     refused = none();
     all = none();
     for (n = file.len; n-- > 0;) {
         file.len = n;
         a = of_damaged(&file, &t);
-        trial("a file cut after %zu bytes", n);
+        trial("a file of the %s edition cut after %zu bytes", editions[edition].name, n);
         add(&all, &file, &a);
         if (a.to[VMD_SEASON_REFUSED] == 0)
             continue;
         cuts++;
-        trial("a file cut after %zu bytes, none accepted", n);
+        trial("a file of the %s edition cut after %zu bytes, none accepted", editions[edition].name, n);
         add(&refused, &file, &a);
     }
     trial("cut files");
@@ -457,17 +469,17 @@ static void cut_anywhere(void)
     /* where a section ends, or inside cameras, lights or self-shadows, which are then emptied */
     expect_number("accepted of all", all.figures[VMD_SEASON_ACCEPTED], 5 + 61 + 2 * 28 + 9);
     for (n = 0; n < 30; n++) {
-        encode(&file, &t, RAW);
+        encode_in(&file, edition, &t, RAW);
         file.at[n] ^= 1;
         a = of_damaged(&file, &t);
-        trial("byte %zu changed", n);
+        trial("byte %zu of the %s edition's magic changed", n, editions[edition].name);
         expect_number("refused", a.to[VMD_SEASON_REFUSED], n < 26);
         add(&refused, &file, &a);
     }
 }
 
 /* A count that the rest of the file cannot hold, of each section, and bytes over. Cut files have missing sections. */
-static void other_counts(void)
+static void other_counts(enum edition edition)
 {
     static struct opening o;
     struct take t = distinct_take(9, 2, 3, 4, 5, 6, 7);
@@ -477,18 +489,18 @@ static void other_counts(void)
     trial("counts that are too large");
     s = none();
     for (section = 0; section < SECTIONS; section++) {
-        encode(&file, &t, RAW);
+        encode_in(&file, edition, &t, RAW);
         expected_opening(file.at, file.len, &o);
         memset(file.at + o.places[section] - 4, 0xFF, 4);
         a = of_damaged(&file, &t);
-        trial("a count of section %zu that is too large", section);
+        trial("a count of section %zu that is too large, %s edition", section, editions[edition].name);
         add(&s, &file, &a);
     }
     trial("counts that are too large");
     expect_number("refused", s.figures[VMD_SEASON_REFUSED], 3);
     expect_number("cameras", s.figures[VMD_SEASON_TOTAL + VMD_CAMERAS], 0 + 4 + 4);
     expect_number("self-shadows", s.figures[VMD_SEASON_TOTAL + VMD_SELF_SHADOWS], 0);
-    encode(&file, &t, RAW);
+    encode_in(&file, edition, &t, RAW);
     put(&file, file.at, 50);
     a = of_take(&t);
     trial("bytes after the last property frame");
@@ -532,7 +544,7 @@ static void change_after_name(const char *what, uint8_t *at, size_t width, const
         change(what, end + 1, at + width, a);
 }
 
-static void bytes_not_counted(void)
+static void bytes_not_counted(enum edition edition)
 {
     static struct opening o;
     struct take t = repeated_names_take();
@@ -541,14 +553,15 @@ static void bytes_not_counted(void)
     trial("bytes that are not counted");
     expect_number("bone names", a.to[VMD_SEASON_BONE_NAMES], 3);
     expect_number("morph names", a.to[VMD_SEASON_MORPH_NAMES], 3);
-    encode(&file, &t, CANONICAL);
+    encode_in(&file, edition, &t, CANONICAL);
     expected_opening(file.at, file.len, &o);
     for (i = 0; i < t.counts[0]; i++)
         change("a bone's interpolation", file.at + o.places[0] + 111 * i + 47, file.at + o.places[0] + 111 * i + 111, &a);
     for (i = 0; i < t.counts[2]; i++)
         change("a camera's interpolation", file.at + o.places[2] + 61 * i + 32, file.at + o.places[2] + 61 * i + 56, &a);
-    encode(&file, &t, CANONICAL);
-    change_after_name("a model name", file.at + 30, 20, &a);
+    encode_in(&file, edition, &t, CANONICAL);
+    change("after the magic", file.at + MAGIC_TOLD, file.at + MAGIC_FIELD, &a);
+    change_after_name("a model name", file.at + MAGIC_FIELD, editions[edition].model_width, &a);
     for (i = 0; i < t.counts[0]; i++)
         change_after_name("a bone's name", file.at + o.places[0] + 111 * i, 15, &a);
     for (i = 0; i < t.counts[1]; i++)
@@ -797,6 +810,10 @@ static void refused_anyway(void)
     file.len = 49;
     trial("a file that cannot be read");
     try_limit(s, &file, &a);
+    memcpy(file.at, editions[OLDER].magic, MAGIC_TOLD);
+    file.len = 39;
+    trial("an older file that cannot be read");
+    try_limit(s, &file, &a);
     file.len = 0;
     trial("no bytes at all");
     try_limit(s, &file, &a);
@@ -883,14 +900,17 @@ static void means(void)
 
 int main(void)
 {
+    enum edition edition;
     no_takes();
-    told_in_numbers();
     lists();
     orders();
     sections_alone();
-    cut_anywhere();
-    other_counts();
-    bytes_not_counted();
+    for (edition = NEWER; edition < EDITIONS; edition++) {
+        told_in_numbers(edition);
+        cut_anywhere(edition);
+        other_counts(edition);
+        bytes_not_counted(edition);
+    }
     names();
     many_names();
     limits();

@@ -277,11 +277,17 @@ static void build_back(const struct bytes *file, const struct parts *expected, u
 static struct parts expected;
 static struct bytes file, canonical;
 
+/* In each edition that can hold its model name: the parts are the same. The newer one is last, and stays in file. */
 static void try_take(const char *name, const struct take *t, enum manner manner)
 {
+    parts_of(&expected, t);
+    if (t->model.len <= editions[OLDER].model_width) {
+        trial("%s, older edition", name);
+        encode_in(&file, OLDER, t, manner);
+        try_split(&file, &expected);
+    }
     trial("%s", name);
     encode(&file, t, manner);
-    parts_of(&expected, t);
     try_split(&file, &expected);
 }
 
@@ -336,13 +342,18 @@ static void takes(void)
     try_split(&file, &expected);
     trial("start,0 into null buffers");
     null_buffers(&file, &expected);
+    encode_in(&file, OLDER, &t, CANONICAL);
+    trial("start,0 of the older edition");
+    file.len = 44;
+    try_split(&file, &expected);
+    null_buffers(&file, &expected);
     t = distinct_take(20, 0, 0, 0, 0, 0, 0);
     try_take("a model name and no records", &t, RAW);
     t = distinct_take(0, 1, 0, 0, 0, 0, 0);
     try_take("one bone", &t, CANONICAL);
     t = distinct_take(3, 0, 1, 0, 0, 0, 0);
     try_take("one morph", &t, RAW);
-    t = distinct_take(7, 12, 12, 12, 12, 12, 12);
+    t = distinct_take(10, 12, 12, 12, 12, 12, 12);
     try_take("six sections", &t, RAW);
     t = distinct_take(0, 2, 4, 1, 4, 1, 4);
     try_take("six sections and no model name", &t, CANONICAL);
@@ -365,6 +376,14 @@ static void builds(void)
     build_back(&file, &expected, VMD_OK, &canonical);
     trial("its export, built");
     build_back(&canonical, &expected, VMD_OK, &canonical);
+    trial("the same take of the older edition, built");
+    encode_in(&file, OLDER, &t, RAW);
+    build_back(&file, &expected, VMD_OK, &canonical);
+    t.model = named("ten bytes!");
+    trial("an older take with a model name of ten bytes, built");
+    encode_in(&file, OLDER, &t, RAW);
+    encode(&canonical, &t, CANONICAL);
+    build_back(&file, &expected, VMD_OK, &canonical);
     trial("20 times its records, built");
     encode_times(&file, &t, 20, RAW);
     encode_times(&canonical, &t, 20, CANONICAL);
@@ -394,6 +413,9 @@ static void builds(void)
         encode(&file, &t, RAW);
         encode(&canonical, &t, CANONICAL);
         parts_of(&expected, &t);
+        build_back(&file, &expected, numbers[k], &canonical);
+        trial("an older take that the builder refuses with %u", (unsigned)numbers[k]);
+        encode_in(&file, OLDER, &t, RAW);
         build_back(&file, &expected, numbers[k], &canonical);
     }
 }
@@ -444,15 +466,15 @@ static void flags(void)
 /* ---- names */
 
 /* A take of records with these names; bytes after a name's zero differ from record to record. */
-static void try_names(const char *what, const struct name *names, size_t n, int morphs)
+static void try_names(const char *what, const struct name *names, size_t n, int morphs, enum edition edition)
 {
     static struct take t;
     size_t i, k;
     t = distinct_take(4, 0, 0, 1, 0, 0, 2);
-    trial("%s: %zu %s", what, n, morphs ? "morphs" : "bones");
+    trial("%s: %zu %s, %s edition", what, n, morphs ? "morphs" : "bones", editions[edition].name);
     no_parts(&expected);
     file.len = 0;
-    put_header(&file, &t.model, RAW);
+    put_header_of(&file, edition, &t.model, RAW);
     put_u32(&file, morphs ? 0 : (uint32_t)n);
     if (morphs)
         put_u32(&file, (uint32_t)n);
@@ -485,11 +507,15 @@ static void try_names(const char *what, const struct name *names, size_t n, int 
     try_split(&file, &expected);
 }
 
-/* Of bones, and of morphs. */
+/* Of bones, and of morphs; a few of them in an older file too. */
 static void try_names_of_both(const char *what, const struct name *names, size_t n)
 {
-    try_names(what, names, n, 0);
-    try_names(what, names, n, 1);
+    int morphs;
+    for (morphs = 0; morphs < 2; morphs++) {
+        if (n < 100)
+            try_names(what, names, n, morphs, OLDER);
+        try_names(what, names, n, morphs, NEWER);
+    }
 }
 
 /* A name of this length that a number has: its digits to the base 8, the last ones first or last. */
@@ -553,12 +579,12 @@ static void names(void)
 /* ---- files as others write them, and files that are refused */
 
 /* A file cut anywhere has the parts of what it means, or is refused. */
-static void cut_anywhere(void)
+static void cut_anywhere(enum edition edition)
 {
     static struct opening o;
     struct take t = distinct_take(9, 2, 2, 2, 2, 2, 3);
     size_t n, s;
-    encode(&file, &t, RAW);
+    encode_in(&file, edition, &t, RAW);
     for (n = file.len; n-- > 0;) {
         struct take cut = t;
         uint32_t number;
@@ -567,7 +593,7 @@ static void cut_anywhere(void)
         number = expected_opening(file.at, n, &o);
         for (s = 0; s < SECTIONS; s++)
             cut.counts[s] = o.counts[s];
-        trial("a file cut after %zu bytes", n);
+        trial("a file of the %s edition cut after %zu bytes", editions[edition].name, n);
         if (number != VMD_OK) {
             try_refused(&file, number);
             continue;
@@ -580,17 +606,17 @@ static void cut_anywhere(void)
 }
 
 /* A count that the rest of the file cannot hold, of each section, and bytes over. */
-static void other_counts(void)
+static void other_counts(enum edition edition)
 {
     struct take t = distinct_take(9, 2, 2, 2, 2, 2, 3);
     static struct opening o;
     size_t s, k;
     for (s = 0; s < SECTIONS; s++) {
         struct take means = t;
-        encode(&file, &t, RAW);
+        encode_in(&file, edition, &t, RAW);
         expected_opening(file.at, file.len, &o);
         memset(file.at + o.places[s] - 4, 0xFF, 4);
-        trial("a count of section %zu that is too large", s);
+        trial("a count of section %zu that is too large, %s edition", s, editions[edition].name);
         if (s < 2 || s == 5) {
             try_refused(&file, VMD_ENDS_EARLY);
             continue;
@@ -600,18 +626,18 @@ static void other_counts(void)
         parts_of(&expected, &means);
         try_split(&file, &expected);
     }
-    trial("bytes after the last property frame");
-    encode(&file, &t, RAW);
+    trial("bytes after the last property frame, %s edition", editions[edition].name);
+    encode_in(&file, edition, &t, RAW);
     put(&file, file.at, 50);
     parts_of(&expected, &t);
     try_split(&file, &expected);
 }
 
-static void refusals(void)
+static void refusals(enum edition edition)
 {
     struct take t = distinct_take(5, 2, 1, 1, 1, 1, 3);
-    encode(&file, &t, RAW);
-    trial("a file whose last byte is missing");
+    encode_in(&file, edition, &t, RAW);
+    trial("a file of the %s edition whose last byte is missing", editions[edition].name);
     file.len -= 1;
     try_refused(&file, VMD_ENDS_EARLY);
     trial("another magic");
@@ -624,12 +650,12 @@ static void refusals(void)
 }
 
 /* More records of each kind than one byte can count. */
-static void many_records(void)
+static void many_records(enum edition edition)
 {
     struct take t = distinct_take(3, 5, 6, 5, 6, 7, 8);
     size_t n[BUFFERS];
-    trial("60 times the records of a take");
-    encode_times(&file, &t, 60, RAW);
+    trial("60 times the records of a take, %s edition", editions[edition].name);
+    encode_times_in(&file, edition, &t, 60, RAW);
     parts_of_times(&expected, &t, 60);
     lengths_of(&expected, n);
     sizes_of(&file, VMD_OK, &expected);
@@ -640,14 +666,17 @@ static void many_records(void)
 
 int main(void)
 {
+    enum edition edition;
     takes();
     builds();
     odd_floats_anywhere();
     flags();
     names();
-    cut_anywhere();
-    other_counts();
-    refusals();
-    many_records();
+    for (edition = NEWER; edition < EDITIONS; edition++) {
+        cut_anywhere(edition);
+        other_counts(edition);
+        refusals(edition);
+        many_records(edition);
+    }
     return finished("split");
 }

@@ -3,7 +3,7 @@
  *
  * A struct take is what a file means; flags are the bytes that a file has. It is encoded in two manners: CANONICAL, as the
  * library has to write it, and RAW, as other programs may: bytes after a name's zero, flags of any value, anything in bytes
- * 26 to 29.
+ * 26 to 29. And in two editions, which differ in the magic and in the model name's width.
  */
 #ifndef TAKE_H
 #define TAKE_H
@@ -193,12 +193,37 @@ static inline void put_flag(struct bytes *b, unsigned value, enum manner manner)
     put_byte(b, manner == CANONICAL ? value != 0 : value);
 }
 
+enum edition { NEWER, OLDER, EDITIONS };
+
+/* The bytes that tell the edition, the zero included; four more make the magic's field. */
+enum { MAGIC_TOLD = 26, MAGIC_FIELD = 30 };
+
+static const struct {
+    const char *name, *magic;
+    size_t model_width, sections; /* where the bone count stands */
+} editions[EDITIONS] = {
+    {"newer", "Vocaloid Motion Data 0002", 20, 50},
+    {"older", "Vocaloid Motion Data file", 10, 40},
+};
+
+/* What the older edition has less than the newer. */
+enum { NARROWER = 10 };
+
 /* The magic and the model name. */
+static inline void put_header_of(struct bytes *b, enum edition edition, const struct name *model, enum manner manner)
+{
+    if (model->len > editions[edition].model_width) {
+        fprintf(stderr, "the test's own model name is too long\n");
+        exit(2);
+    }
+    put(b, editions[edition].magic, MAGIC_TOLD);
+    put_u32(b, manner == CANONICAL ? 0 : 0xEFBEADDE);
+    put_name(b, model, editions[edition].model_width, manner);
+}
+
 static inline void put_header(struct bytes *b, const struct name *model, enum manner manner)
 {
-    put(b, "Vocaloid Motion Data 0002", 26);
-    put_u32(b, manner == CANONICAL ? 0 : 0xEFBEADDE);
-    put_name(b, model, 20, manner);
+    put_header_of(b, NEWER, model, manner);
 }
 
 static inline void put_bone(struct bytes *b, const struct bone *r, enum manner manner)
@@ -266,12 +291,13 @@ static inline void put_records(struct bytes *b, const struct take *t, int sectio
 }
 
 /* The file whose every section has the take's records so many times over. */
-static inline void encode_times(struct bytes *b, const struct take *t, size_t times, enum manner manner)
+static inline void encode_times_in(struct bytes *b, enum edition edition, const struct take *t, size_t times,
+                                   enum manner manner)
 {
     size_t n;
     int s;
     b->len = 0;
-    put_header(b, &t->model, manner);
+    put_header_of(b, edition, &t->model, manner);
     for (s = 0; s < SECTIONS; s++) {
         put_u32(b, (uint32_t)(times * t->counts[s]));
         for (n = 0; n < times; n++)
@@ -279,9 +305,31 @@ static inline void encode_times(struct bytes *b, const struct take *t, size_t ti
     }
 }
 
+static inline void encode_times(struct bytes *b, const struct take *t, size_t times, enum manner manner)
+{
+    encode_times_in(b, NEWER, t, times, manner);
+}
+
+static inline void encode_in(struct bytes *b, enum edition edition, const struct take *t, enum manner manner)
+{
+    encode_times_in(b, edition, t, 1, manner);
+}
+
 static inline void encode(struct bytes *b, const struct take *t, enum manner manner)
 {
-    encode_times(b, t, 1, manner);
+    encode_in(b, NEWER, t, manner);
+}
+
+/* What an older file has to be read as: the newer magic, its 10 name bytes and 10 zeros, and all that follows them. */
+static inline void widen(struct bytes *newer, const struct bytes *older)
+{
+    static const uint8_t zeros[NARROWER];
+    newer->len = 0;
+    put(newer, editions[NEWER].magic, MAGIC_TOLD);
+    put_u32(newer, 0);
+    put(newer, older->at + MAGIC_FIELD, editions[OLDER].model_width);
+    put(newer, zeros, NARROWER);
+    put(newer, older->at + editions[OLDER].sections, older->len - editions[OLDER].sections);
 }
 
 /* ---- takes to try */

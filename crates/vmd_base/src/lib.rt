@@ -1,7 +1,10 @@
-// What every other crate names: the refusals, the magic and its sizes, the manner of reading, and a section of a file.
+// What every other crate names: the refusals, the editions, their magics and sizes, the manner of reading, and a section of a
+// file.
 ghost use mathlib.Core.Path.{_≡_};
+ghost use Prim.Native.Nat.{_≤_};
 ghost use Rattle.vmd_format.specs.Refusal.{number};
-ghost use Rattle.vmd_base.specs.Meaning.{refusal-of};
+ghost use Rattle.vmd_format.specs.Take.{model-width};
+ghost use Rattle.vmd_base.specs.Meaning.{refusal-of, edition-is};
 
 // ---- sizes, in bytes
 
@@ -14,10 +17,12 @@ pub const MAGIC_COMPARED: usize = 26;
 // The field of the model name, after the magic.
 pub const MODEL_WIDTH: usize = 20;
 
-// The magic and the model name.
-pub const HEADER_SIZE: usize = MAGIC_SIZE + MODEL_WIDTH;
+// The same in the older edition.
+const OLDER_MODEL_WIDTH: usize = 10;
 
 pub const VMD_MAGIC: [u8; MAGIC_SIZE] = *b"Vocaloid Motion Data 0002\0\0\0\0\0";
+
+pub const OLDER_MAGIC: [u8; MAGIC_SIZE] = *b"Vocaloid Motion Data file\0\0\0\0\0";
 
 // ---- types
 
@@ -37,6 +42,7 @@ pub enum VmdRefusal {
     NameIndexTooLarge,
     OutputTooShort,
     PartsDoNotFit,
+    ModelNameTooLong,
 }
 
 impl VmdRefusal {
@@ -58,6 +64,25 @@ impl VmdRefusal {
             VmdRefusal::NameIndexTooLarge => 12,
             VmdRefusal::OutputTooShort => 13,
             VmdRefusal::PartsDoNotFit => 14,
+            VmdRefusal::ModelNameTooLong => 15,
+        }
+    }
+}
+
+// The editions of the format. Their headers differ, and nothing else.
+pub enum VmdEdition {
+    Newer,
+    Older,
+}
+
+impl VmdEdition {
+    pub fn model_width(self) -> usize
+        ensures { λ r. ⌜ r ≡ model-width (edition-is self) ⌝ }
+        ensures { λ r. ⌜ r ≤ 20 ⌝ }
+    {
+        match self {
+            VmdEdition::Newer => MODEL_WIDTH,
+            VmdEdition::Older => OLDER_MODEL_WIDTH,
         }
     }
 }

@@ -2,7 +2,7 @@
 use mathlib.Core.Path.{_≡_, refl, sym, ap, ap₂, _∙_}
 use mathlib.Core.Bool.{Bool, true, false, cond, not, _&&_}
 use mathlib.Core.List.{List, [], _∷_, _++_, append-assoc, append-nil}
-use Prim.Native.Nat.{ℕ, zero, suc, _+_, _-_, _*_, _≤_, _<_, zero-le, suc-le-suc}
+use Prim.Native.Nat.{ℕ, zero, suc, _+_, _-_, _*_, _≤_, _<_, suc-le-suc}
 use native.Mathlib.Nat.{add-assoc, add-zero, suc-ne-zero, zero-lt-suc, le-of-suc-le-suc, not-suc-le-zero, add-sub-cancel-left, sub-zero, zero-sub, suc-sub-suc}
 use native.Mathlib.Numerals.{add-one}
 use native.Mathlib.Omega.{arith}
@@ -187,12 +187,6 @@ same-agrees (x ∷ a) (y ∷ b) (suc n) ha hb h =
     rw (eq-eqb x y (h 0 (zero-lt-suc n))) (same-agrees a b n (le-of-suc-le-suc ha) (le-of-suc-le-suc hb) (λ k m. h (suc k) (suc-le-suc m)))
 
 -- ---- names
-
-length-before-zero : (l : List ℕ) → length (before-zero l) ≤ length l
-unfolding before-zero
-length-before-zero [] = zero-le
-length-before-zero (zero ∷ l) = zero-le
-length-before-zero (suc b ∷ l) = suc-le-suc (length-before-zero l)
 
 -- the bytes before the first zero are the first so many
 take-before-zero : (l : List ℕ) → take (length (before-zero l)) l ≡ before-zero l

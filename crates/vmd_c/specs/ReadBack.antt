@@ -1,5 +1,6 @@
--- What is saved reads back, in the terms of the calls alone: open the bytes that export, joining or building left, with scratch
--- enough, fetch every number, and the records, names and interpolation bytes are those of the take. In every manner of reading.
+-- What is saved reads back, in the terms of the calls alone: open the bytes that export, the converter, joining or building
+-- left, with scratch enough, fetch every number, and the records, names and interpolation bytes are those of the take. In every
+-- manner of reading.
 use Prim.Native.Nat.{ℕ, _≤_}
 use mathlib.Core.Path.{_≡_}
 use mathlib.Core.List.{List}
@@ -17,6 +18,7 @@ use Rattle.vmd_reader.specs.Own.{Calls, own-calls}
 use Rattle.vmd_format.specs.Parts.{take-of-parts}
 use Rattle.vmd_parts.specs.Building.{Slices, Typed, parts, built-answer, built-file, build-back}
 use Rattle.vmd_export.specs.Demand3.{exported, joined, Enough, export-back, join-back}
+use Rattle.vmd_export.specs.Older.{converted, OlderEnough, converted-back}
 
 -- x is what a call left in its output: a file. Opening it with this scratch gives no refusal, and the figures of the take; and
 -- each call, with that opening and the scratch as opening left it, gives the take's records and parts, and nothing past them.
@@ -45,6 +47,10 @@ module _ (m : Manner) where
   pub export-reads-back : {s : List ℕ} {t : Take} (out scratch : List ℕ) → Accepted m s t → Enough t out
       → length (t .properties) ≤ length scratch → ReadBack m (exported m s out) scratch t
   export-reads-back out scratch h n = reads-back scratch (export-back m out h n)
+
+  pub older-reads-back : {s : List ℕ} {t : Take} (out scratch : List ℕ) → Accepted m s t → length (t .model) ≤ 10 → OlderEnough t out
+      → length (t .properties) ≤ length scratch → ReadBack m (converted m s out) scratch t
+  older-reads-back out scratch h k n = reads-back scratch (converted-back m h k out n)
 
   pub join-reads-back : {a b : List ℕ} {t u : Take} (out scratch : List ℕ) → Accepted m a t → Accepted m b u → Fit t u → Enough (join t u) out
       → length (join t u .properties) ≤ length scratch → ReadBack m (joined m a b out) scratch (join t u)

@@ -33,7 +33,7 @@ ghost use Rattle.vmd_places.specs.Meaning.{ik-place};
 ghost use Rattle.vmd_places.specs.Parts.{file-part, part-in};
 ghost use Rattle.vmd_reader.specs.Meaning.{opening-is};
 ghost use Rattle.vmd_output.specs.Meaning.{written-answer};
-ghost use Rattle.vmd_export.specs.Saved.{exported-answer, exported-output, joined-answer, joined-output, export-size, join-size};
+ghost use Rattle.vmd_export.specs.Saved.{exported-answer, exported-output, older-answer, older-output, joined-answer, joined-output, export-size, older-size, join-size};
 ghost use Rattle.vmd_checks.specs.Meaning.{parts-of};
 ghost use Rattle.vmd_c.specs.Meaning.{status, slot-after, counts-of, places-of, totals-of, scan-at, bone-words, morph-words, camera-words, light-values, light-words, self-shadow-words, property-words, part-words, joined-words, size-words, season-counts, season-figures, season-at, mean-words};
 ghost use Rattle.vmd_split.specs.Split.{split, split-answer, split-sizes, parts-left, buffers};
@@ -461,6 +461,25 @@ pub extern "C" fn vmd_export_animation(file: &[u8], out: &mut [u8], written: &mu
         × (now (out .exit) ≡ exported-output lenient (now (file .entry)) (now (out .entry)))) ⌝ }
 {
     report_written(vmd_export::export_vmd_animation(file, out), written)
+}
+
+#[no_mangle]
+pub extern "C" fn vmd_export_older_size(file: &[u8], size: &mut u64) -> u32
+    ensures { λ r. ⌜ (let answer = older-size lenient (now (file .entry)) in
+        (r ≡ status answer)
+        × (now (size .exit) ≡ slot-after (now (size .entry)) (λ n. n) answer)) ⌝ }
+{
+    report_written(vmd_export::export_older_vmd_size(file), size)
+}
+
+#[no_mangle]
+pub extern "C" fn vmd_export_older_animation(file: &[u8], out: &mut [u8], written: &mut u64) -> u32
+    ensures { λ r. ⌜ (let answer = older-answer lenient (now (file .entry)) (now (out .entry)) in
+        (r ≡ status answer)
+        × (now (written .exit) ≡ slot-after (now (written .entry)) (λ n. n) answer)
+        × (now (out .exit) ≡ older-output lenient (now (file .entry)) (now (out .entry)))) ⌝ }
+{
+    report_written(vmd_export::export_older_vmd_animation(file, out), written)
 }
 
 #[no_mangle]

@@ -4,26 +4,28 @@ use mathlib.Core.Path.{_≡_, refl, ap, sym, _∙_}
 use mathlib.Core.Bool.{Bool, true, false, and-eq-true-iff}
 use mathlib.Core.List.{List, [], _∷_, _++_, append-nil}
 use native.Mathlib.Omega.{arith}
-use borrow.Author.Tests.{leb-true}
+use borrow.Author.Tests.{le-leb, lt-leb, leb-true}
+use lib.Dec.{leb}
 use lib.ListN.{length}
-use Rattle.vmd_format.specs.Refusal.{Refusal, count-too-large}
+use Rattle.vmd_format.specs.Refusal.{Refusal, count-too-large, model-name-too-long}
 use Rattle.vmd_format.specs.Answer.{Answer, declined, given, and-then, map-answer, unless, fitted, within}
 use Rattle.vmd_format.specs.Read.{Manner, table}
-use Rattle.vmd_format.specs.Take.{take-of, write-header, write-sections, write-take}
+use Rattle.vmd_format.specs.Take.{Edition, newer, older, model-width, Take, take-of, read-take, write-header, write-sections, write-edition, write-take}
 use Rattle.vmd_format.specs.Opening.{ik-total, Scan}
 use Rattle.vmd_format.specs.Fetch.{model-of}
 use Rattle.vmd_format.specs.Places.{walk, scan-file}
 use Rattle.vmd_format.specs.PlacesLaws.{section-in, frames-in}
 use Rattle.vmd_format.specs.ScanLaws.{file-in, ExtentWithin, Inside}
-use Rattle.vmd_format.specs.Lengths.{export-length}
-use Rattle.vmd_format.specs.Join.{export-file, joined-model, join, fit-together, join-takes, join-files}
-use Rattle.vmd_format.specs.ExportLaws.{take-in, Scanned, scan-scanned, export-by-places, join-by-places, scan-counts, join-length, join-fits}
+use Rattle.vmd_format.specs.Lengths.{edition-length}
+use Rattle.vmd_format.specs.Join.{export-file, older-take, older-file, joined-model, join, fit-together, join-takes, join-files}
+use Rattle.vmd_format.specs.ExportLaws.{take-in, Scanned, scan-scanned, take-by-places, join-by-places, scan-counts, join-length, join-fits}
+use Rattle.vmd_format.specs.EditionLaws.{take-model-short}
 use Rattle.vmd_format.specs.InsideLaws.{inside-reaches, inside-ends}
 use Rattle.vmd_output.specs.Sections.{Frames, records-of, frames-of}
 use Rattle.vmd_bytes.specs.Written.{Wrote, Rest}
 use Rattle.vmd_bytes.proofs.Writes.{rest-as}
 use Rattle.vmd_output.proofs.Saves.{Saves, given-answer, saves-over, saves-room, saves-wrote}
-use Rattle.vmd_export.specs.Together.{no-scan, Sums, sums-fit, sum-length, scan-both, Both, back-bytes, sections-bytes, take-of-both}
+use Rattle.vmd_export.specs.Together.{no-scan, Sums, sums-fit, sum-length, scan-fitting, scan-both, Both, edition-file, back-bytes, sections-bytes, take-of-both}
 
 -- ---- two files
 
@@ -35,34 +37,34 @@ module _ {s : List ℕ} {x : Scan} {t : List ℕ} {y : Scan} (b : Both s x t y) 
     sum = b .sums .properties;
   }
 
-  -- their take under a model name: its bytes and its length
-  module _ (m : List ℕ) where
+  -- their take under a model name, in an edition: its bytes and its length
+  module _ (e : Edition) (m : List ℕ) where
     abbrev bytes : List ℕ
-    bytes = write-take (take-of-both m s x t y)
+    bytes = write-edition e (take-of-both m s x t y)
 
-    bytes-are : bytes ≡ write-header m ++ sections-bytes s x t y
-    unfolding write-take write-sections take-of-both sections-bytes back-bytes
+    bytes-are : bytes ≡ write-header e m ++ sections-bytes s x t y
+    unfolding write-edition write-sections take-of-both sections-bytes back-bytes
     bytes-are = refl
 
-    both-length : length bytes ≡ sum-length x y
+    both-length : length bytes ≡ sum-length e x y
     unfolding sum-length take-of-both join take-in take-of file-in section-in records-of frames-of
     both-length =
-        export-length (take-of-both m s x t y) ∙ sym (export-length (join (take-in s x) (take-in t y)))
-        ∙ join-length (take-in s x) (take-in t y) x y (scan-counts s x (b .first)) (scan-counts t y (b .second))
+        edition-length e (take-of-both m s x t y) ∙ sym (edition-length e (join (take-in s x) (take-in t y)))
+        ∙ join-length e (take-in s x) (take-in t y) x y (scan-counts s x (b .first)) (scan-counts t y (b .second))
 
-    pub both-size : (n : ℕ) → within n (sum-length x y) ≡ map-answer length (fitted n (given bytes))
+    pub both-size : (n : ℕ) → within n (sum-length e x y) ≡ map-answer length (fitted n (given bytes))
     both-size n = given-answer bytes both-length n
 
     -- the output is too short; it has room, and all is left to be written; all was written
-    pub take-over : {out : List ℕ} (k : Refusal) → declined k ≡ within (length out) (sum-length x y) → Saves (given bytes) out (declined k) out
+    pub take-over : {out : List ℕ} (k : Refusal) → declined k ≡ within (length out) (sum-length e x y) → Saves (given bytes) out (declined k) out
     take-over k e = saves-over bytes both-length k e
 
-    module _ {out : List ℕ} (n : ℕ) (e : given n ≡ within (length out) (sum-length x y)) where
-      pub take-rest : Rest out 0 bytes out 0 (write-header m ++ sections-bytes s x t y)
-      take-rest = rest-as bytes-are (saves-room bytes both-length n e)
+    module _ {out : List ℕ} (n : ℕ) (h : given n ≡ within (length out) (sum-length e x y)) where
+      pub take-rest : Rest out 0 bytes out 0 (write-header e m ++ sections-bytes s x t y)
+      take-rest = rest-as bytes-are (saves-room bytes both-length n h)
 
       pub take-wrote : {o : List ℕ} {r : ℕ} → Wrote out 0 bytes o r → Saves (given bytes) out (given r) o
-      take-wrote w = saves-wrote (saves-room bytes both-length n e) w
+      take-wrote w = saves-wrote (saves-room bytes both-length n h) w
 
 -- ---- an export is a take and nothing
 
@@ -94,17 +96,72 @@ module _ (how : Manner) (s : List ℕ) where
   unfolding take-in take-of-both take-of file-in records-of frames-of section-in table frames-in no-scan
   alone-take x = simp append-nil
 
-  pub export-refused : (k : Refusal) → scan-file how s ≡ declined k → export-file how s ≡ declined k
-  unfolding map-answer
-  export-refused k e = export-by-places how s ∙ rw e
+  abbrev fitting : Edition → Take → Answer (List ℕ)
+  fitting e t = unless (leb (length (t .model)) (model-width e)) model-name-too-long (given (write-edition e t))
 
-  module _ (x y : Scan) (e : scan-file how s ≡ given x) (f : y ≡ no-scan) where
-    pub export-both : Sums x no-scan → Both s x s y
-    export-both h = rw f (alone s x (scan-scanned how s x e) h)
+  -- a model name that is read is never too long for the newer edition
+  edition-fits : (e : Edition) → edition-file e how s ≡ and-then (read-take how s) (fitting e)
+  unfolding export-file older-file older-take and-then map-answer write-take unless
+  edition-fits newer = go (read-take how s) refl
+    where
+      go : (a : Answer Take) → read-take how s ≡ a → map-answer (write-edition newer) a ≡ and-then a (fitting newer)
+      go (declined k) e = refl
+      go (given t) e = rw (le-leb (length (t .model)) 20 (take-model-short how s t e))
+  edition-fits older = refl
 
-    pub export-given : (m : List ℕ) → m ≡ model-of s → given (write-take (take-of-both m s x s y)) ≡ export-file how s
+  module _ (e : Edition) where
+    abbrev room : Bool
+    room = leb (length (model-of s)) (model-width e)
+
+    edition-by-places : edition-file e how s ≡ map-answer (λ x. write-edition e (take-in s x)) (scan-fitting e how s)
+    unfolding scan-fitting and-then map-answer unless take-in take-of file-in
+    edition-by-places = edition-fits e ∙ rw (take-by-places how s) (go (scan-file how s))
+      where
+        two : (x : Scan) (b : Bool)
+            → unless b model-name-too-long (given (write-edition e (take-in s x)))
+            ≡ map-answer (λ x. write-edition e (take-in s x)) (unless b model-name-too-long (given x))
+        two x true = refl
+        two x false = refl
+
+        go : (y : Answer Scan) → and-then (map-answer (take-in s) y) (fitting e)
+            ≡ map-answer (λ x. write-edition e (take-in s x)) (and-then y (λ x. unless room model-name-too-long (given x)))
+        go (declined k) = refl
+        go (given x) = two x room
+
+    -- what a scan with a look at the model name gives
+    pub fitting-refused : (k : Refusal) → scan-file how s ≡ declined k → declined k ≡ scan-fitting e how s
+    unfolding scan-fitting and-then
+    fitting-refused k q = rw q
+
+    module _ (x : Scan) (q : scan-file how s ≡ given x) (m : List ℕ) (g : m ≡ model-of s) where
+      pub fitting-long : model-width e < length m → declined model-name-too-long ≡ scan-fitting e how s
+      unfolding scan-fitting and-then unless
+      fitting-long h = rw (q, ← g, lt-leb (length m) (model-width e) h)
+
+      pub fitting-found : length m ≤ model-width e → given x ≡ scan-fitting e how s
+      unfolding scan-fitting and-then unless
+      fitting-found h = rw (q, ← g, le-leb (length m) (model-width e) h)
+
+    pub export-refused : (k : Refusal) → scan-fitting e how s ≡ declined k → edition-file e how s ≡ declined k
     unfolding map-answer
-    export-given m g = rw (f, g, alone-take x) (sym (export-by-places how s ∙ rw e))
+    export-refused k q = edition-by-places ∙ rw q
+
+    module _ (x y : Scan) (q : scan-fitting e how s ≡ given x) (f : y ≡ no-scan) where
+      scanned : scan-file how s ≡ given x
+      unfolding scan-fitting and-then unless
+      scanned = go (scan-file how s) room q
+        where
+          go : (a : Answer Scan) (b : Bool) → and-then a (λ x. unless b model-name-too-long (given x)) ≡ given x → a ≡ given x
+          go (declined k) b r = r
+          go (given z) true r = r
+          go (given z) false r = let z : _≡_ {A = ℕ} 0 1 = cc in absurd (omega arith)
+
+      pub export-both : Sums x no-scan → Both s x s y
+      export-both h = rw f (alone s x (scan-scanned how s x scanned) h)
+
+      pub export-given : (m : List ℕ) → m ≡ model-of s → given (write-edition e (take-of-both m s x s y)) ≡ edition-file e how s
+      unfolding map-answer
+      export-given m g = rw (f, g, alone-take x) (sym (edition-by-places ∙ rw q))
 
 -- ---- a join
 
@@ -215,8 +272,8 @@ module _ (how : Manner) (s t : List ℕ) where
   join-refused k e = join-is ∙ rw e
 
   pub join-given : (x y : Scan) (m : List ℕ) → scan-both how s t ≡ given (x, y) → m ≡ joined-model (model-of s) (model-of t)
-      → given (write-take (take-of-both m s x t y)) ≡ join-files how s t
-  unfolding map-answer
+      → given (write-edition newer (take-of-both m s x t y)) ≡ join-files how s t
+  unfolding map-answer write-take
   join-given x y m e g = rw g (sym (join-is ∙ rw e))
 
 pub model-kept : (m n : List ℕ) → 0 < length m → m ≡ joined-model m n

@@ -34,7 +34,7 @@ Enough t out = length (write-take t) ≤ length out
 -- ---- what the calls leave is the export and the join
 
 module _ (m : Manner) where
-  exported-is : {s : List ℕ} {t : Take} (out : List ℕ) → Accepted m s t → Enough t out → exported m s out ≡ given (write-take t)
+  pub exported-is : {s : List ℕ} {t : Take} (out : List ℕ) → Accepted m s t → Enough t out → exported m s out ≡ given (write-take t)
   exported-is {s} {t} out h n = left-whole (write-take t) out (export-file m s) (export-is m h) n
 
   joined-is : (a b : List ℕ) {t u : Take} (out : List ℕ) → read-take m a ≡ given t → read-take m b ≡ given u → Fit t u → Enough (join t u) out

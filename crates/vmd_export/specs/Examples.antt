@@ -1,17 +1,17 @@
--- What export and joining answer and leave in an output, of takes that are written out: an output that is longer keeps its
--- tail, one that is a byte short is refused and kept, and what a refused file leaves.
-use Prim.Native.Nat.{ℕ}
+-- What export, the converter and joining answer and leave in an output, of takes that are written out: an output that is longer
+-- keeps its tail, one that is a byte short is refused and kept, and what a refused file leaves.
+use Prim.Native.Nat.{ℕ, _-_}
 use mathlib.Core.Path.{_≡_, refl}
 use mathlib.Core.List.{List, [], _∷_, _++_}
-use lib.ListN.{replicate}
-use Rattle.vmd_format.specs.Refusal.{file-ends-early, magic-differs, output-too-short}
+use lib.ListN.{take, replicate}
+use Rattle.vmd_format.specs.Refusal.{file-ends-early, magic-differs, output-too-short, model-name-too-long}
 use Rattle.vmd_format.specs.Answer.{declined, given}
 use Rattle.vmd_format.specs.Read.{lenient}
-use Rattle.vmd_format.specs.Computed.{computed, start, fours, u0, u1, morph-bytes}
+use Rattle.vmd_format.specs.Computed.{computed, start, older-start, fours, u0, u1, morph-bytes}
 use Rattle.vmd_base.specs.declared.VmdRefusal.the-variants.{OutputTooShort}
 use Rattle.vmd_output.specs.declared.VmdWritten.the-variants.{Refused, Bytes}
 use Rattle.vmd_output.specs.Meaning.{written-answer}
-use Rattle.vmd_export.specs.Saved.{exported-answer, exported-output, joined-answer, joined-output, export-size, join-size}
+use Rattle.vmd_export.specs.Saved.{exported-answer, exported-output, older-answer, older-output, joined-answer, joined-output, export-size, older-size, join-size}
 
 -- a take of one morph under a letter, with bytes after its name, and as it is written
 abbrev morph-take : ℕ → ℕ → List ℕ
@@ -19,6 +19,10 @@ morph-take c j = start ++ u0 ++ u1 ++ morph-bytes c j 9
 
 abbrev written : List ℕ → List ℕ
 written morphs = start ++ u0 ++ morphs ++ u0 ++ u0 ++ u0 ++ u0
+
+-- a take without records, under a name of n letters
+abbrev long-name : ℕ → List ℕ
+long-name n = take 30 start ++ replicate n 65 ++ replicate (20 - n) 0 ++ u0
 
 -- 97 bytes into an output of 99
 pub exported-whole :
@@ -37,6 +41,28 @@ pub export-refused :
     × (export-size lenient start ≡ declined file-ends-early)
 unfolding computed
 export-refused = (refl, refl, refl, refl, refl)
+
+-- the same in the older edition: 87 bytes into an output of 88
+pub older-whole :
+    (older-answer lenient (morph-take 66 88) (replicate 88 7) ≡ given 87)
+    × (older-output lenient (morph-take 66 88) (replicate 88 7)
+    ≡ older-start ++ u0 ++ u1 ++ morph-bytes 66 0 9 ++ u0 ++ u0 ++ u0 ++ u0 ++ (7 ∷ []))
+    × (older-size lenient (morph-take 66 88) ≡ given 87)
+unfolding computed
+older-whole = (refl, refl, refl)
+
+-- 1 before 15, and 15 before 13; ten letters fit
+pub older-refused :
+    (older-answer lenient (take 53 (long-name 11)) [] ≡ declined file-ends-early)
+    × (older-answer lenient (long-name 11) [] ≡ declined model-name-too-long)
+    × (older-output lenient (long-name 11) (replicate 64 7) ≡ replicate 64 7)
+    × (older-size lenient (long-name 11) ≡ declined model-name-too-long)
+    × (older-answer lenient (long-name 10) (replicate 63 7) ≡ declined output-too-short)
+    × (older-output lenient (long-name 10) (replicate 63 7) ≡ replicate 63 7)
+    × (older-answer lenient (long-name 10) (replicate 64 7) ≡ given 64)
+    × (older-size lenient (long-name 20) ≡ declined model-name-too-long)
+unfolding computed
+older-refused = (refl, refl, refl, refl, refl, refl, refl, refl)
 
 -- 120 bytes into an output of 121: the first file's records, then the second's
 pub joined-whole :

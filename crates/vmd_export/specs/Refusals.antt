@@ -1,18 +1,20 @@
--- Which refusals export, joining and their size calls give, and in which order: document 01, "Export: 1, 2, 13. Joining: first
--- file, second file, 11, 13." In every manner of reading; a limit is the length of the output lent, or the largest number.
+-- Which refusals export, joining, the converter and their size calls give, and in which order: document 01, "Export: 1, 2, 13.
+-- Joining: first file, second file, 11, 13", and 02 e), 15 "tested just before 13". In every manner of reading; a limit is the
+-- length of the output lent, or the largest number.
 use Prim.Native.Nat.{ℕ}
 use mathlib.Core.Path.{_≡_, refl}
 use mathlib.Core.Bool.{Bool, true, false}
 use mathlib.Core.List.{List, [], _∷_, _++_}
+use lib.Dec.{leb}
 use lib.ListN.{length}
-use Rattle.vmd_format.specs.Refusal.{output-too-short, count-too-large}
+use Rattle.vmd_format.specs.Refusal.{output-too-short, count-too-large, model-name-too-long}
 use Rattle.vmd_format.specs.Answer.{Answer, declined, given, and-then, map-answer, unless, fitted, within}
 use Rattle.vmd_format.specs.AnswerLaws.{fitted-length}
 use Rattle.vmd_format.specs.Read.{Manner, lenient}
-use Rattle.vmd_format.specs.Take.{Take, read-take, write-take}
-use Rattle.vmd_format.specs.Join.{export-file, join, fit-together, join-takes, join-files}
+use Rattle.vmd_format.specs.Take.{Take, older, read-take, write-edition, write-take}
+use Rattle.vmd_format.specs.Join.{export-file, older-take, older-file, join, fit-together, join-takes, join-files}
 use Rattle.vmd_format.specs.RefusalLaws.{here, there, reading-numbers, Refuses, among-back, reading-refuses, refuses-more, refuses-then, refuses-unless}
-use Rattle.vmd_export.specs.Saved.{exported-answer, joined-answer, export-size, join-size}
+use Rattle.vmd_export.specs.Saved.{exported-answer, older-answer, joined-answer, export-size, older-size, join-size}
 
 -- ---- the order
 
@@ -26,6 +28,12 @@ join-in-order m limit a b =
     and-then (read-take m a) λ t. and-then (read-take m b) λ u.
     unless (fit-together t u) count-too-large (within limit (length (write-take (join t u))))
 
+-- the file is read, then the length of the model name is tested, then the output's
+unfoldable pub older-in-order : Manner → ℕ → List ℕ → Answer ℕ
+older-in-order m limit s =
+    and-then (read-take m s) λ t.
+    unless (leb (length (t .model)) 10) model-name-too-long (within limit (length (write-edition older t)))
+
 module _ (m : Manner) (limit : ℕ) where
   export-order : (s : List ℕ) → map-answer length (fitted limit (export-file m s)) ≡ export-in-order m limit s
   unfolding export-file export-in-order map-answer fitted and-then
@@ -34,6 +42,22 @@ module _ (m : Manner) (limit : ℕ) where
       go : (x : Answer Take) → map-answer length (fitted limit (map-answer write-take x)) ≡ and-then x (λ t. within limit (length (write-take t)))
       go (declined k) = refl
       go (given t) = fitted-length limit (write-take t)
+
+  older-order : (s : List ℕ) → map-answer length (fitted limit (older-file m s)) ≡ older-in-order m limit s
+  unfolding older-file older-take older-in-order map-answer fitted and-then unless
+  older-order s = go (read-take m s)
+    where
+      two : (t : Take) (b : Bool)
+          → map-answer length (fitted limit (unless b model-name-too-long (given (write-edition older t))))
+          ≡ unless b model-name-too-long (within limit (length (write-edition older t)))
+      two t true = fitted-length limit (write-edition older t)
+      two t false = refl
+
+      go : (x : Answer Take)
+          → map-answer length (fitted limit (and-then x older-take))
+          ≡ and-then x (λ t. unless (leb (length (t .model)) 10) model-name-too-long (within limit (length (write-edition older t))))
+      go (declined k) = refl
+      go (given t) = two t (leb (length (t .model)) 10)
 
   join-order : (a b : List ℕ) → map-answer length (fitted limit (join-files m a b)) ≡ join-in-order m limit a b
   unfolding join-files join-takes join-in-order map-answer fitted and-then unless
@@ -63,6 +87,16 @@ module _ (m : Manner) (limit : ℕ) where
       refuses-then l (read-take m s) _ (refuses-more (reading-numbers m) (13 ∷ []) (read-take m s) (reading-refuses m s)) λ t.
       refuses-unless l _ output-too-short _ (among-back (reading-numbers m) (13 ∷ []) here) tt
 
+  -- 1, 2, 15, 13, and what the manner names
+  pub older-refuses : (s : List ℕ) → Refuses (reading-numbers m ++ (15 ∷ 13 ∷ [])) (older-in-order m limit s)
+  unfolding older-in-order within
+  older-refuses s =
+      let r : List ℕ = 15 ∷ 13 ∷ [] in
+      let l = reading-numbers m ++ r in
+      refuses-then l (read-take m s) _ (refuses-more (reading-numbers m) r (read-take m s) (reading-refuses m s)) λ t.
+      refuses-unless l _ model-name-too-long _ (among-back (reading-numbers m) r here)
+      (refuses-unless l _ output-too-short _ (among-back (reading-numbers m) r (there here)) tt)
+
   -- "Joining: first file, second file, 11, 13", and what the manner names
   pub join-refuses : (a b : List ℕ) → Refuses (reading-numbers m ++ (11 ∷ 13 ∷ [])) (join-in-order m limit a b)
   unfolding join-in-order within
@@ -83,6 +117,12 @@ export-is-in-order m s out = export-order m (length out) s
 pub export-size-is-in-order : (m : Manner) (s : List ℕ) → export-size m s ≡ export-in-order m 18446744073709551615 s
 export-size-is-in-order m s = export-order m 18446744073709551615 s
 
+pub older-is-in-order : (m : Manner) (s out : List ℕ) → older-answer m s out ≡ older-in-order m (length out) s
+older-is-in-order m s out = older-order m (length out) s
+
+pub older-size-is-in-order : (m : Manner) (s : List ℕ) → older-size m s ≡ older-in-order m 18446744073709551615 s
+older-size-is-in-order m s = older-order m 18446744073709551615 s
+
 pub join-is-in-order : (m : Manner) (a b out : List ℕ) → joined-answer m a b out ≡ join-in-order m (length out) a b
 join-is-in-order m a b out = join-order m (length out) a b
 
@@ -93,6 +133,10 @@ join-size-is-in-order m a b = join-order m 18446744073709551615 a b
 pub export-numbers : (s out : List ℕ) → Refuses (1 ∷ 2 ∷ 13 ∷ []) (exported-answer lenient s out)
 unfolding lenient
 export-numbers s out = rw (export-is-in-order lenient s out) (export-refuses lenient (length out) s)
+
+pub older-numbers : (s out : List ℕ) → Refuses (1 ∷ 2 ∷ 15 ∷ 13 ∷ []) (older-answer lenient s out)
+unfolding lenient
+older-numbers s out = rw (older-is-in-order lenient s out) (older-refuses lenient (length out) s)
 
 pub join-numbers : (a b out : List ℕ) → Refuses (1 ∷ 2 ∷ 11 ∷ 13 ∷ []) (joined-answer lenient a b out)
 unfolding lenient

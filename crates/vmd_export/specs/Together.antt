@@ -4,14 +4,16 @@ use Prim.Native.Nat.{ℕ, _+_, _≤_}
 use mathlib.Core.Bool.{Bool, _&&_}
 use mathlib.Core.List.{List, _++_}
 use lib.Dec.{leb}
-use Rattle.vmd_format.specs.Refusal.{count-too-large}
+use lib.ListN.{length}
+use Rattle.vmd_format.specs.Refusal.{count-too-large, model-name-too-long}
 use Rattle.vmd_format.specs.Answer.{Answer, given, and-then, unless}
 use Rattle.vmd_format.specs.Records.{bone, morph, camera, light, self-shadow}
 use Rattle.vmd_format.specs.Read.{Manner, fixed, write-counted}
-use Rattle.vmd_format.specs.Take.{property, Take}
+use Rattle.vmd_format.specs.Take.{Edition, newer, older, model-width, property, Take}
 use Rattle.vmd_format.specs.Opening.{Scan}
+use Rattle.vmd_format.specs.Fetch.{model-of}
 use Rattle.vmd_format.specs.Places.{scan-file}
-use Rattle.vmd_format.specs.Join.{file-length}
+use Rattle.vmd_format.specs.Join.{export-file, older-file, file-length}
 use Rattle.vmd_format.specs.ExportLaws.{Scanned}
 use Rattle.vmd_output.specs.Sections.{records-of, frames-of}
 
@@ -46,11 +48,16 @@ sums-fit x y =
     && leb (x .self-shadows .count + y .self-shadows .count) 4294967295 && leb (x .properties .count + y .properties .count) 4294967295
 
 -- the length of the file of both
-unfoldable pub sum-length : Scan → Scan → ℕ
-sum-length x y =
-    file-length (x .bones .count + y .bones .count) (x .morphs .count + y .morphs .count) (x .cameras .count + y .cameras .count)
+unfoldable pub sum-length : Edition → Scan → Scan → ℕ
+sum-length e x y =
+    file-length e (x .bones .count + y .bones .count) (x .morphs .count + y .morphs .count) (x .cameras .count + y .cameras .count)
     (x .lights .count + y .lights .count) (x .self-shadows .count + y .self-shadows .count) (x .properties .count + y .properties .count)
     (x .ik-states + y .ik-states)
+
+-- a file that is accepted and whose model name has room in an edition
+unfoldable pub scan-fitting : Edition → Manner → List ℕ → Answer Scan
+scan-fitting e m s =
+    and-then (scan-file m s) λ x. unless (leb (length (model-of s)) (model-width e)) model-name-too-long (given x)
 
 -- two files that are accepted and whose counts added up fit
 unfoldable pub scan-both : Manner → List ℕ → List ℕ → Answer (Scan × Scan)
@@ -64,6 +71,11 @@ pub record Both (s : List ℕ) (x : Scan) (t : List ℕ) (y : Scan) : Type 0 whe
   pub sums : Sums x y
 
 -- ---- what is written
+
+-- what is saved of a file in an edition: the export, and what the converter writes
+abbrev pub edition-file : Edition → Manner → List ℕ → Answer (List ℕ)
+edition-file newer m s = export-file m s
+edition-file older m s = older-file m s
 
 -- the take of both, under a model name
 unfoldable pub take-of-both : List ℕ → List ℕ → Scan → List ℕ → Scan → Take

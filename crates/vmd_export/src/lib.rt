@@ -1,5 +1,6 @@
 // Saving a take and joining two. Public: the pub calls ask nothing of their caller, and each states its answer, and every
 // byte lent, by an equation with a definition.
+use vmd_base::VmdEdition;
 use vmd_base::VmdManner;
 use vmd_base::VmdRefusal;
 use vmd_base::VmdSection;
@@ -14,16 +15,16 @@ ghost use lib.Dec.{leb};
 ghost use lib.ListN.{length};
 ghost use Rattle.vmd_format.specs.Answer.{given, map-answer, fitted, within, left};
 ghost use Rattle.vmd_format.specs.Read.{lenient};
-ghost use Rattle.vmd_format.specs.Take.{write-take};
+ghost use Rattle.vmd_format.specs.Take.{write-edition};
 ghost use Rattle.vmd_format.specs.Fetch.{model-of};
 ghost use Rattle.vmd_format.specs.Join.{joined-model};
-ghost use Rattle.vmd_base.specs.Meaning.{manner-of};
-ghost use Rattle.vmd_scan.specs.Meaning.{scan-is};
+ghost use Rattle.vmd_base.specs.Meaning.{edition-is, manner-of};
+ghost use Rattle.vmd_scan.specs.Meaning.{scan-is, scan-answer};
 ghost use Rattle.vmd_output.specs.Meaning.{written-answer};
 ghost use Rattle.vmd_bytes.specs.Written.{Room, Wrote};
 ghost use Rattle.vmd_export.specs.Meaning.{both-answer};
-ghost use Rattle.vmd_export.specs.Saved.{exported-answer, exported-output, joined-answer, joined-output, export-size, join-size};
-ghost use Rattle.vmd_export.specs.Together.{no-scan, Sums, sums-fit, sum-length, scan-both, Both, back-bytes, sections-bytes, take-of-both};
+ghost use Rattle.vmd_export.specs.Saved.{exported-answer, exported-output, older-answer, older-output, joined-answer, joined-output, export-size, older-size, join-size};
+ghost use Rattle.vmd_export.specs.Together.{no-scan, Sums, sums-fit, sum-length, scan-fitting, scan-both, Both, edition-file, back-bytes, sections-bytes, take-of-both};
 
 // ---- two takes together. An export is a take and nothing.
 
@@ -63,12 +64,13 @@ fn sums_fit(a: VmdSections, b: VmdSections) -> bool
 }
 
 // How long the two are together, where that is within a limit.
-fn size_of_both(limit: usize, a: VmdSections, b: VmdSections) -> VmdWritten
+fn size_of_both(limit: usize, edition: VmdEdition, a: VmdSections, b: VmdSections) -> VmdWritten
     requires { ⌜ Sums (scan-is a) (scan-is b) ⌝ }
-    ensures { λ r. ⌜ written-answer r ≡ within limit (sum-length (scan-is a) (scan-is b)) ⌝ }
+    ensures { λ r. ⌜ written-answer r ≡ within limit (sum-length (edition-is edition) (scan-is a) (scan-is b)) ⌝ }
 {
     vmd_output::file_size(
         limit,
+        edition,
         a.bones.count + b.bones.count,
         a.morphs.count + b.morphs.count,
         a.cameras.count + b.cameras.count,
@@ -105,14 +107,29 @@ fn scan_both(manner: VmdManner, first: &[u8], second: &[u8]) -> BothAnswer
     }
 }
 
-// ---- how long an output has to be
-
-fn export_size(manner: VmdManner, file: &[u8]) -> VmdWritten
-    ensures { λ r. ⌜ written-answer r ≡ export-size (manner-of manner) (now (file .entry)) ⌝ }
+// A file whose model name has room in an edition. In the newer one every name that is read has.
+fn scan_fitting(manner: VmdManner, edition: VmdEdition, file: &[u8]) -> ScanAnswer
+    ensures { λ r. ⌜ scan-answer r ≡ scan-fitting (edition-is edition) (manner-of manner) (now (file .entry)) ⌝ }
 {
     match vmd_scan::scan_file(file, manner) {
+        ScanAnswer::Refused(k) => ScanAnswer::Refused(k),
+        ScanAnswer::Scanned(a) => {
+            if edition.model_width() < vmd_scan::model_name(file).len() {
+                return ScanAnswer::Refused(VmdRefusal::ModelNameTooLong);
+            }
+            ScanAnswer::Scanned(a)
+        }
+    }
+}
+
+// ---- how long an output has to be
+
+fn export_size(manner: VmdManner, edition: VmdEdition, file: &[u8]) -> VmdWritten
+    ensures { λ r. ⌜ written-answer r ≡ map-answer length (fitted 18446744073709551615 (edition-file (edition-is edition) (manner-of manner) (now (file .entry)))) ⌝ }
+{
+    match scan_fitting(manner, edition, file) {
         ScanAnswer::Refused(k) => VmdWritten::Refused(k),
-        ScanAnswer::Scanned(a) => size_of_both(vmd_output::LARGEST, a, no_sections()),
+        ScanAnswer::Scanned(a) => size_of_both(vmd_output::LARGEST, edition, a, no_sections()),
     }
 }
 
@@ -121,7 +138,7 @@ fn join_size(manner: VmdManner, first: &[u8], second: &[u8]) -> VmdWritten
 {
     match scan_both(manner, first, second) {
         BothAnswer::Refused(k) => VmdWritten::Refused(k),
-        BothAnswer::Scanned(a, b) => size_of_both(vmd_output::LARGEST, a, b),
+        BothAnswer::Scanned(a, b) => size_of_both(vmd_output::LARGEST, VmdEdition::Newer, a, b),
     }
 }
 
@@ -173,6 +190,7 @@ fn write_sections(
 // The records of both files under a model name, where the output can hold them.
 fn write_take(
     out: &mut [u8],
+    edition: VmdEdition,
     model: &[u8],
     first: &[u8],
     a: VmdSections,
@@ -180,13 +198,13 @@ fn write_take(
     b: VmdSections,
 ) -> VmdWritten
     requires { ⌜ Both (now first) (scan-is a) (now second) (scan-is b) ⌝ }
-    ensures { λ r. ⌜ written-answer r ≡ map-answer length (fitted (length (now (out .entry))) (given (write-take (take-of-both (now (model .entry)) (now (first .entry)) (scan-is a) (now (second .entry)) (scan-is b))))) ⌝ }
-    ensures { λ r. ⌜ now (out .exit) ≡ left (now (out .entry)) (fitted (length (now (out .entry))) (given (write-take (take-of-both (now (model .entry)) (now (first .entry)) (scan-is a) (now (second .entry)) (scan-is b))))) ⌝ }
+    ensures { λ r. ⌜ written-answer r ≡ map-answer length (fitted (length (now (out .entry))) (given (write-edition (edition-is edition) (take-of-both (now (model .entry)) (now (first .entry)) (scan-is a) (now (second .entry)) (scan-is b))))) ⌝ }
+    ensures { λ r. ⌜ now (out .exit) ≡ left (now (out .entry)) (fitted (length (now (out .entry))) (given (write-edition (edition-is edition) (take-of-both (now (model .entry)) (now (first .entry)) (scan-is a) (now (second .entry)) (scan-is b))))) ⌝ }
 {
-    match size_of_both(out.len(), a, b) {
+    match size_of_both(out.len(), edition, a, b) {
         VmdWritten::Refused(k) => VmdWritten::Refused(k),
         VmdWritten::Bytes(_) => {
-            let to = vmd_output::write_header(out, model);
+            let to = vmd_output::write_header(out, edition, model);
             let end = write_sections(out, to, first, a, second, b);
             VmdWritten::Bytes(end as u64)
         }
@@ -195,14 +213,15 @@ fn write_take(
 
 // ---- export and joining
 
-fn export(manner: VmdManner, out: &mut [u8], file: &[u8]) -> VmdWritten
-    ensures { λ r. ⌜ written-answer r ≡ exported-answer (manner-of manner) (now (file .entry)) (now (out .entry)) ⌝ }
-    ensures { λ r. ⌜ now (out .exit) ≡ exported-output (manner-of manner) (now (file .entry)) (now (out .entry)) ⌝ }
+fn export(manner: VmdManner, edition: VmdEdition, out: &mut [u8], file: &[u8]) -> VmdWritten
+    ensures { λ r. ⌜ written-answer r ≡ map-answer length (fitted (length (now (out .entry))) (edition-file (edition-is edition) (manner-of manner) (now (file .entry)))) ⌝ }
+    ensures { λ r. ⌜ now (out .exit) ≡ left (now (out .entry)) (fitted (length (now (out .entry))) (edition-file (edition-is edition) (manner-of manner) (now (file .entry)))) ⌝ }
 {
-    match vmd_scan::scan_file(file, manner) {
+    match scan_fitting(manner, edition, file) {
         ScanAnswer::Refused(k) => VmdWritten::Refused(k),
         ScanAnswer::Scanned(a) => write_take(
             out,
+            edition,
             vmd_scan::model_name(file),
             file,
             a,
@@ -231,6 +250,7 @@ fn join<'a>(manner: VmdManner, out: &mut [u8], first: &'a [u8], second: &'a [u8]
         BothAnswer::Refused(k) => VmdWritten::Refused(k),
         BothAnswer::Scanned(a, b) => write_take(
             out,
+            VmdEdition::Newer,
             joined_model(first, second),
             first,
             a,
@@ -247,14 +267,29 @@ pub fn export_vmd_animation(file: &[u8], out: &mut [u8]) -> VmdWritten
     ensures { λ r. ⌜ written-answer r ≡ exported-answer lenient (now (file .entry)) (now (out .entry)) ⌝ }
     ensures { λ r. ⌜ now (out .exit) ≡ exported-output lenient (now (file .entry)) (now (out .entry)) ⌝ }
 {
-    export(VmdManner::Lenient, out, file)
+    export(VmdManner::Lenient, VmdEdition::Newer, out, file)
 }
 
 // How long its output has to be.
 pub fn export_vmd_size(file: &[u8]) -> VmdWritten
     ensures { λ r. ⌜ written-answer r ≡ export-size lenient (now (file .entry)) ⌝ }
 {
-    export_size(VmdManner::Lenient, file)
+    export_size(VmdManner::Lenient, VmdEdition::Newer, file)
+}
+
+// Writes the take in the older edition at the front of out; a refusal leaves out as it was.
+pub fn export_older_vmd_animation(file: &[u8], out: &mut [u8]) -> VmdWritten
+    ensures { λ r. ⌜ written-answer r ≡ older-answer lenient (now (file .entry)) (now (out .entry)) ⌝ }
+    ensures { λ r. ⌜ now (out .exit) ≡ older-output lenient (now (file .entry)) (now (out .entry)) ⌝ }
+{
+    export(VmdManner::Lenient, VmdEdition::Older, out, file)
+}
+
+// How long its output has to be.
+pub fn export_older_vmd_size(file: &[u8]) -> VmdWritten
+    ensures { λ r. ⌜ written-answer r ≡ older-size lenient (now (file .entry)) ⌝ }
+{
+    export_size(VmdManner::Lenient, VmdEdition::Older, file)
 }
 
 // Writes the join of two takes at the front of out; a refusal leaves out as it was.

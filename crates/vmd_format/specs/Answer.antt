@@ -23,7 +23,8 @@ unfoldable pub unless : {A : Type 0} → Bool → Refusal → Answer A → Answe
 unless true k x = x
 unless false k x = declined k
 
--- "output shorter than the export: 13": bytes that are to be written into an output of n bytes
+-- "output shorter than the export: 13", since 02 e) "than the file to be written": bytes that are to be written into an output
+-- of n bytes
 unfoldable pub fitted : ℕ → Answer (List ℕ) → Answer (List ℕ)
 fitted n (declined k) = declined k
 fitted n (given s) = unless (leb (length s) n) output-too-short (given s)

@@ -4,10 +4,10 @@ use mathlib.Core.Path.{_≡_, refl, ap}
 use mathlib.Core.Bool.{Bool, true, false, _&&_, and-eq-true-iff}
 use mathlib.Core.List.{List, [], _∷_, _++_}
 use native.Mathlib.Omega.{arith}
-use native.Mathlib.Nat.{not-suc-le-zero, div-div-eq-div-mul}
+use native.Mathlib.Nat.{zero-add, suc-add, not-suc-le-zero, div-div-eq-div-mul}
 use borrow.Author.Tests.{ltb-true}
 use lib.Dec.{ltb}
-use lib.ListN.{length, getD, take, drop}
+use lib.ListN.{length, getD, take, drop, replicate}
 use lib.Seq.{getD-drop}
 use Rattle.vmd_format.specs.Bytes.{u32, u32-bytes, before-zero, padded, is-zero, is-set, inverted-byte, flag-byte}
 
@@ -81,6 +81,21 @@ unfolding padded
 padded-small zero s h = bytes-nil
 padded-small (suc n) [] h = bytes-cons 0 (padded n []) (omega arith) (padded-small n [] bytes-nil)
 padded-small (suc n) (b ∷ s) h = bytes-cons b (padded n s) (h 0) (padded-small n s (λ i. h (suc i)))
+
+pub length-before-zero : (l : List ℕ) → length (before-zero l) ≤ length l
+unfolding before-zero
+length-before-zero [] = omega arith
+length-before-zero (zero ∷ l) = omega arith
+length-before-zero (suc b ∷ l) = omega (arith, length-before-zero l)
+
+-- a name that fits is padded further by more zeros
+pub padded-more : (n k : ℕ) (s : List ℕ) → length s ≤ n → padded (n + k) s ≡ padded n s ++ replicate k 0
+unfolding padded
+padded-more zero zero [] h = refl
+padded-more zero (suc k) [] h = rw zero-add (ap (λ r. 0 ∷ r) (rw zero-add at (padded-more zero k [] h)))
+padded-more zero k (b ∷ s) h = absurd (omega arith)
+padded-more (suc n) k [] h = rw suc-add (ap (λ r. 0 ∷ r) (padded-more n k [] (omega arith)))
+padded-more (suc n) k (b ∷ s) h = rw suc-add (ap (λ r. b ∷ r) (padded-more n k s (omega arith)))
 
 -- zeros alone hold the empty name
 zeros-back : (n : ℕ) (rest : List ℕ) → before-zero (take n (padded n [] ++ rest)) ≡ []

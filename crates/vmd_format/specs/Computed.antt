@@ -10,16 +10,16 @@ use Rattle.vmd_format.specs.Refusal
 use Rattle.vmd_format.specs.Answer.{Answer, declined, given, and-then, map-answer, unless, fitted, left}
 use Rattle.vmd_format.specs.Records.{Bone, Morph, Camera, Light, SelfShadow, IkState, bone, morph, camera, light, self-shadow, ik-state, property-head}
 use Rattle.vmd_format.specs.Read.{bind, whole-if, whole, fixed, many, table, no-section, lenient, over-count, records-if, counted-if, counted, optional, write-all, write-counted}
-use Rattle.vmd_format.specs.Take.{property, take-of, magic, same, model-if, magic-if, header-if, header, sections, ended, read-file, answer, read-take, write-header, write-sections, write-take}
+use Rattle.vmd_format.specs.Take.{property, take-of, magic, older-magic, magic-of, same, edition-if, edition, model-if, magic-if, header-if, header, sections, ended, read-file, answer, read-take, write-header, write-sections, write-edition, write-take}
 use Rattle.vmd_format.specs.Opening.{ik-total, take-frames, least, smallest, largest, smallest-frame, largest-frame, positions, record-count, extent-of, scan-of, opening-of, smaller-of, joined-smallest, opened, open-file, scratch-if, scratch-of, scratch-after}
 use Rattle.vmd_format.specs.Fetch.{record-place, fetch, or-empty, model-in, model-of, property-place, property-at, fetch-property, ik-extent, fetch-ik-state}
-use Rattle.vmd_format.specs.Join.{export-file, joined-model, join, fits-u32, fit-together, join-takes, join-files}
+use Rattle.vmd_format.specs.Join.{export-file, older-take, older-file, joined-model, join, fits-u32, fit-together, join-takes, join-files}
 use Rattle.vmd_format.specs.Names.{between, single, lead, trail, pair, unit, past, fault-within, fault, good}
 use Rattle.vmd_format.specs.Parts.{names-from, names-of, records-of, at-end, until-end, frames, frames-or-none, properties-of, upto, bone-at, morph-at, take-of-parts, _next_, need, each, ends-right, table-right, no-bytes-over, is-got, whole-parts, name-check, finite, all-finite, camera-check, light-check, self-shadow-check, ik-check, property-check, columns-check, counts-check, bone-check, morph-check, parts-check, built, build}
 
 -- unfolding this unfolds the format's definitions
 unfoldable pub computed : Unit {0}
-unfolding u32 u32-bytes before-zero padded is-set flag-byte is-zero inverted-byte number byte flag inverted name raw _⊗_ as-record and-then map-answer unless fitted left bone morph camera light self-shadow ik-state property-head bind whole-if whole fixed many table no-section lenient over-count records-if counted-if counted optional write-all write-counted property take-of magic same model-if magic-if header-if header sections ended read-file answer read-take write-header write-sections write-take ik-total take-frames least smallest largest smallest-frame largest-frame positions record-count extent-of scan-of opening-of smaller-of joined-smallest opened open-file scratch-if scratch-of scratch-after record-place fetch or-empty model-in model-of property-place property-at fetch-property ik-extent fetch-ik-state export-file joined-model join fits-u32 fit-together join-takes join-files between single lead trail pair unit past fault-within fault good names-from names-of records-of at-end until-end frames frames-or-none properties-of upto bone-at morph-at take-of-parts _next_ need each ends-right table-right no-bytes-over is-got whole-parts name-check finite all-finite camera-check light-check self-shadow-check ik-check property-check columns-check counts-check bone-check morph-check parts-check built build
+unfolding u32 u32-bytes before-zero padded is-set flag-byte is-zero inverted-byte number byte flag inverted name raw _⊗_ as-record and-then map-answer unless fitted left bone morph camera light self-shadow ik-state property-head bind whole-if whole fixed many table no-section lenient over-count records-if counted-if counted optional write-all write-counted property take-of magic older-magic magic-of same edition-if edition model-if magic-if header-if header sections ended read-file answer read-take write-header write-sections write-edition write-take ik-total take-frames least smallest largest smallest-frame largest-frame positions record-count extent-of scan-of opening-of smaller-of joined-smallest opened open-file scratch-if scratch-of scratch-after record-place fetch or-empty model-in model-of property-place property-at fetch-property ik-extent fetch-ik-state export-file older-take older-file joined-model join fits-u32 fit-together join-takes join-files between single lead trail pair unit past fault-within fault good names-from names-of records-of at-end until-end frames frames-or-none properties-of upto bone-at morph-at take-of-parts _next_ need each ends-right table-right no-bytes-over is-got whole-parts name-check finite all-finite camera-check light-check self-shadow-check ik-check property-check columns-check counts-check bone-check morph-check parts-check built build
 computed = tt
 
 -- ---- answers
@@ -43,6 +43,14 @@ text = 86 ∷ 111 ∷ 99 ∷ 97 ∷ 108 ∷ 111 ∷ 105 ∷ 100 ∷ 32 ∷ 77 �
 -- "the magic and a zero model name, 50 bytes"
 abbrev pub start : List ℕ
 start = text ++ replicate 24 0
+
+-- "Vocaloid Motion Data file" and a zero byte
+abbrev pub older-text : List ℕ
+older-text = 86 ∷ 111 ∷ 99 ∷ 97 ∷ 108 ∷ 111 ∷ 105 ∷ 100 ∷ 32 ∷ 77 ∷ 111 ∷ 116 ∷ 105 ∷ 111 ∷ 110 ∷ 32 ∷ 68 ∷ 97 ∷ 116 ∷ 97 ∷ 32 ∷ 102 ∷ 105 ∷ 108 ∷ 101 ∷ 0 ∷ []
+
+-- the same start in the older edition, 40 bytes
+abbrev pub older-start : List ℕ
+older-start = older-text ++ replicate 14 0
 
 -- numbers below 256, each in four bytes
 abbrev pub fours : List ℕ → List ℕ
@@ -104,9 +112,11 @@ ik-said c b = record { name = c ∷ []; enabled = b }
 
 -- ---- a file of 336 bytes: this model name field and, in every section, one record at its frame
 
-abbrev pub one-each : List ℕ → ℕ → ℕ → ℕ → ℕ → ℕ → ℕ → List ℕ
-one-each n b m c l s p =
-    text ++ replicate 4 0 ++ n
-    ++ u1 ++ bone-bytes 65 0 b ++ u1 ++ morph-bytes 66 0 m ++ u1 ++ camera-bytes c 1
+abbrev pub one-each-after : ℕ → ℕ → ℕ → ℕ → ℕ → ℕ → List ℕ
+one-each-after b m c l s p =
+    u1 ++ bone-bytes 65 0 b ++ u1 ++ morph-bytes 66 0 m ++ u1 ++ camera-bytes c 1
     ++ u1 ++ light-bytes l ++ u1 ++ shadow-bytes s 2
     ++ u1 ++ fours (p ∷ []) ++ (1 ∷ []) ++ u1 ++ ik-bytes 67 0 1
+
+abbrev pub one-each : List ℕ → ℕ → ℕ → ℕ → ℕ → ℕ → ℕ → List ℕ
+one-each n b m c l s p = text ++ replicate 4 0 ++ n ++ one-each-after b m c l s p

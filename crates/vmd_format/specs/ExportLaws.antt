@@ -9,7 +9,7 @@ use lib.Dec.{leb}
 use Rattle.vmd_format.specs.Answer.{Answer, declined, given, and-then, map-answer}
 use Rattle.vmd_format.specs.Records.{Property, bone, morph, camera, light, self-shadow}
 use Rattle.vmd_format.specs.Read.{Step, refused, got, Manner}
-use Rattle.vmd_format.specs.Take.{Take, File, take-of, read-file, answer, read-take, write-take}
+use Rattle.vmd_format.specs.Take.{Take, File, take-of, Edition, read-file, answer, read-take, write-edition, write-take}
 use Rattle.vmd_format.specs.Opening.{ik-total, Scan}
 use Rattle.vmd_format.specs.Fetch.{model-of}
 use Rattle.vmd_format.specs.Places.{scan-file}
@@ -17,7 +17,7 @@ use Rattle.vmd_format.specs.PlacesLaws.{table-length, section-in, frames
 use Rattle.vmd_format.specs.ScanLaws.{frames-length, file-in, Inside, Matches, file-agrees}
 use Rattle.vmd_format.specs.OpeningLaws.{agreed-total}
 use Rattle.vmd_format.specs.Join.{export-file, join, fits-u32, fit-together, join-takes, join-files, file-length}
-use Rattle.vmd_format.specs.Lengths.{export-length}
+use Rattle.vmd_format.specs.Lengths.{edition-length}
 
 -- the take of these places
 unfoldable pub take-in : List ℕ → Scan → Take
@@ -115,20 +115,19 @@ unfolding ik-total
 ik-append [] m = omega arith
 ik-append (p ∷ l) m = omega (arith, ik-append l m)
 
-pub scan-length : (t : Take) (x : Scan) → Counts t x
-    → length (write-take t)
-    ≡ file-length (x .bones .count) (x .morphs .count) (x .cameras .count) (x .lights .count) (x .self-shadows .count) (x .properties .count) (x .ik-states)
-unfolding file-length
-scan-length t x c = export-length t ∙ rw (c .bones, c .morphs, c .cameras, c .lights, c .self-shadows, c .properties, c .ik-states)
+pub scan-length : (e : Edition) (t : Take) (x : Scan) → Counts t x
+    → length (write-edition e t)
+    ≡ file-length e (x .bones .count) (x .morphs .count) (x .cameras .count) (x .lights .count) (x .self-shadows .count) (x .properties .count) (x .ik-states)
+scan-length e t x c = edition-length e t ∙ rw (c .bones, c .morphs, c .cameras, c .lights, c .self-shadows, c .properties, c .ik-states)
 
-pub join-length : (t u : Take) (x y : Scan) → Counts t x → Counts u y
-    → length (write-take (join t u))
-    ≡ file-length (x .bones .count + y .bones .count) (x .morphs .count + y .morphs .count) (x .cameras .count + y .cameras .count)
+pub join-length : (e : Edition) (t u : Take) (x y : Scan) → Counts t x → Counts u y
+    → length (write-edition e (join t u))
+    ≡ file-length e (x .bones .count + y .bones .count) (x .morphs .count + y .morphs .count) (x .cameras .count + y .cameras .count)
     (x .lights .count + y .lights .count) (x .self-shadows .count + y .self-shadows .count) (x .properties .count + y .properties .count)
     (x .ik-states + y .ik-states)
-unfolding file-length join
-join-length t u x y c d =
-    export-length (join t u)
+unfolding join
+join-length e t u x y c d =
+    edition-length e (join t u)
     ∙ rw (
       length-append (t .bones) (u .bones),
       length-append (t .morphs) (u .morphs),

@@ -1,22 +1,30 @@
--- Export and joining: document 01, "Export" and "Joining". Definitions only.
+-- Export and joining: document 01, "Export" and "Joining"; and the converter of 02 e). Definitions only.
 use Prim.Native.Nat.{ℕ, _+_, _*_}
 use mathlib.Core.Bool.{Bool, _&&_}
 use mathlib.Core.List.{List, [], _∷_, _++_}
 use lib.ListN.{length}
 use lib.Dec.{leb}
-use Rattle.vmd_format.specs.Refusal.{count-too-large}
+use Rattle.vmd_format.specs.Refusal.{count-too-large, model-name-too-long}
 use Rattle.vmd_format.specs.Answer.{Answer, given, and-then, map-answer, unless}
 use Rattle.vmd_format.specs.Read.{Manner}
-use Rattle.vmd_format.specs.Take.{Take, read-take, write-take}
+use Rattle.vmd_format.specs.Take.{Edition, older, model-width, Take, read-take, write-edition, write-take}
 
 -- "`export_vmd_animation` over the parsed file"
 unfoldable pub export-file : Manner → List ℕ → Answer (List ℕ)
 export-file m s = map-answer write-take (read-take m s)
 
+-- 02 e): "A converter writes the older edition, .. with zeros after the magic and the name, then the export's bytes from its
+-- bone count on"; "15 the model name is over 10 bytes, converter only, tested just before 13"
+unfoldable pub older-take : Take → Answer (List ℕ)
+older-take t = unless (leb (length (t .model)) (model-width older)) model-name-too-long (given (write-edition older t))
+
+unfoldable pub older-file : Manner → List ℕ → Answer (List ℕ)
+older-file m s = and-then (read-take m s) older-take
+
 -- "With b bones, m morphs, c cameras, l lights, s self-shadows, p properties and k IK states over all of them it writes 74 +
--- 111b + 23m + 61c + 28l + 9s + 9p + 21k bytes"
-unfoldable pub file-length : ℕ → ℕ → ℕ → ℕ → ℕ → ℕ → ℕ → ℕ
-file-length b m c l s p k = 74 + 111 * b + 23 * m + 61 * c + 28 * l + 9 * s + 9 * p + 21 * k
+-- 111b + 23m + 61c + 28l + 9s + 9p + 21k bytes"; in the older edition "10 bytes shorter"
+unfoldable pub file-length : Edition → ℕ → ℕ → ℕ → ℕ → ℕ → ℕ → ℕ → ℕ
+file-length e b m c l s p k = 54 + model-width e + 111 * b + 23 * m + 61 * c + 28 * l + 9 * s + 9 * p + 21 * k
 
 -- "The joined model name is the first file's where that is not empty, else the second's."
 unfoldable pub joined-model : List ℕ → List ℕ → List ℕ

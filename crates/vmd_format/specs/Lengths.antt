@@ -1,6 +1,6 @@
 -- How long a written take is.
-use Prim.Native.Nat.{_+_, _*_}
-use mathlib.Core.Path.{_≡_}
+use Prim.Native.Nat.{ℕ, _+_, _*_}
+use mathlib.Core.Path.{_≡_, refl}
 use mathlib.Core.List.{List, [], _∷_}
 use native.Mathlib.Omega.{arith}
 use lib.ListN.{length, length-append}
@@ -11,8 +11,14 @@ use Rattle.vmd_format.specs.LayoutLaws.{Lawful}
 use Rattle.vmd_format.specs.Read.{fixed, write-all, write-counted}
 use Rattle.vmd_format.specs.Records.{Property, bone, morph, camera, light, self-shadow, ik-state, property-head}
 use Rattle.vmd_format.specs.RecordLaws.{bone-lawful, morph-lawful, camera-lawful, light-lawful, self-shadow-lawful, ik-state-lawful, head-lawful}
-use Rattle.vmd_format.specs.Take.{Take, property, magic, write-header, write-sections, write-take}
+use Rattle.vmd_format.specs.Take.{Take, property, magic, older-magic, Edition, newer, older, magic-of, model-width, write-header, write-sections, write-edition, write-take}
 use Rattle.vmd_format.specs.Opening.{ik-total}
+use Rattle.vmd_format.specs.Join.{file-length}
+
+pub magic-length : (e : Edition) → length (magic-of e) ≡ 26
+unfolding magic-of magic older-magic
+magic-length newer = refl
+magic-length older = refl
 
 -- a count and records of one size
 pub fixed-length : {A : Type 0} {K : Layout A} {G : A → Type 0} → Lawful K G → (l : List A)
@@ -35,20 +41,31 @@ property-length l = simp length-append (omega (arith, all l))
         simp length-append
         (omega (arith, head-lawful .wide (p .frame, p .visible), fixed-length ik-state-lawful (p .ik-states), all l))
 
--- "it writes 74 + 111b + 23m + 61c + 28l + 9s + 9p + 21k bytes"
+module _ (e : Edition) where
+  pub header-length : (m : List ℕ) → length (write-header e m) ≡ 30 + model-width e
+  unfolding write-header
+  header-length m = simp length-append (omega (arith, magic-length e, padded-length (model-width e) m))
+
+  -- "it writes 74 + 111b + 23m + 61c + 28l + 9s + 9p + 21k bytes", and 10 fewer in the older edition
+  pub edition-length : (t : Take) → length (write-edition e t)
+      ≡ file-length e (length (t .bones)) (length (t .morphs)) (length (t .cameras)) (length (t .lights)) (length (t .self-shadows))
+      (length (t .properties)) (ik-total (t .properties))
+  unfolding write-edition write-sections file-length bone morph camera light self-shadow number byte flag inverted name raw _⊗_ as-record
+  edition-length t =
+      simp length-append
+      (omega (
+        arith,
+        header-length (t .model),
+        fixed-length bone-lawful (t .bones),
+        fixed-length morph-lawful (t .morphs),
+        fixed-length camera-lawful (t .cameras),
+        fixed-length light-lawful (t .lights),
+        fixed-length self-shadow-lawful (t .self-shadows),
+        property-length (t .properties),
+      ))
+
 pub export-length : (t : Take) → length (write-take t)
     ≡ 74 + 111 * length (t .bones) + 23 * length (t .morphs) + 61 * length (t .cameras) + 28 * length (t .lights)
     + 9 * length (t .self-shadows) + 9 * length (t .properties) + 21 * ik-total (t .properties)
-unfolding write-take write-header write-sections magic bone morph camera light self-shadow number byte flag inverted name raw _⊗_ as-record
-export-length t =
-    simp length-append
-    (omega (
-      arith,
-      padded-length 20 (t .model),
-      fixed-length bone-lawful (t .bones),
-      fixed-length morph-lawful (t .morphs),
-      fixed-length camera-lawful (t .cameras),
-      fixed-length light-lawful (t .lights),
-      fixed-length self-shadow-lawful (t .self-shadows),
-      property-length (t .properties),
-    ))
+unfolding write-take file-length
+export-length t = edition-length newer t

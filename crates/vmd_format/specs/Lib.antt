@@ -42,3 +42,6 @@ pub mod NamesLaws
 pub mod FaultLaws
 pub mod Lengths
 pub mod ExportLaws
+pub mod EditionLaws
+pub mod OlderLaws
+pub mod Editions

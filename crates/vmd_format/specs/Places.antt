@@ -20,6 +20,10 @@ place-after s (got n r) = given (length s - length r)
 unfoldable pub header-place : List ℕ → Answer ℕ
 header-place s = place-after s (header s)
 
+-- the same past a model name of so many bytes, where the file has them
+unfoldable pub place-past : ℕ → List ℕ → Answer ℕ
+place-past width s = unless (leb (30 + width) (length s)) file-ends-early (given (30 + width))
+
 -- where the field of the model name stands, how wide it is, and where the sections begin
 pub record HeaderPlaces : Type 0 where
   pub name : ℕ

@@ -26,10 +26,12 @@ pub data Refusal : Type 0 where
   count-too-large : Refusal
   -- name index at or above the table's length
   name-index-too-large : Refusal
-  -- output shorter than the export
+  -- output shorter than the export; since 02 e), than the file to be written
   output-too-short : Refusal
   -- 02 a): a table, column or record buffer is too short or a name table passes 4,294,967,295 bytes
   parts-do-not-fit : Refusal
+  -- 02 e): the model name is over 10 bytes
+  model-name-too-long : Refusal
 
 abbrev pub number : Refusal → ℕ
 number file-ends-early = 1
@@ -46,3 +48,4 @@ number count-too-large = 11
 number name-index-too-large = 12
 number output-too-short = 13
 number parts-do-not-fit = 14
+number model-name-too-long = 15

@@ -13,7 +13,7 @@ use Rattle.vmd_format.specs.Refusal.{Refusal, number, file-ends-early, m
 use Rattle.vmd_format.specs.Answer.{Answer, declined, given, and-then, unless}
 use Rattle.vmd_format.specs.Records.{ik-state, property-head}
 use Rattle.vmd_format.specs.Read.{Step, refused, got, Reader, bind, Codec, whole-if, whole, fixed, many, Section, Oversized, refuse, emptied, BytesOver, ignored, turned-down, Manner, lenient, over-count, records-if, counted-if, counted, optional}
-use Rattle.vmd_format.specs.Take.{Take, File, take-of, property, magic, same, model-if, magic-if, header-if, header, ended, sections, read-file, answer, read-take}
+use Rattle.vmd_format.specs.Take.{Take, File, take-of, property, magic, older-magic, same, edition-if, edition, model-if, magic-if, header-if, header, ended, sections, read-file, answer, read-take}
 use Rattle.vmd_format.specs.Opening.{Opening, opening-of, opened, open-file}
 use Rattle.vmd_format.specs.OpeningLaws.{take-opens, ScratchEnough}
 
@@ -106,19 +106,20 @@ module _ (P : Refusal → Type 0) where
         bind-refused (counted (refuse file-ends-early) (fixed ik-state) t) _ (fixed-refused (refuse file-ends-early) ik-state early t) λ k u. tt
 
     header-refused : P magic-differs → (s : List ℕ) → Refused P (header s)
-    unfolding header header-if magic-if model-if
+    unfolding header header-if magic-if model-if edition edition-if
     header-refused differs s = one (leb 30 (length s))
       where
-        three : (b : Bool) → Refused P (model-if b s)
-        three true = tt
-        three false = early
+        three : (width : ℕ) (b : Bool) → Refused P (model-if b width s)
+        three width true = tt
+        three width false = early
 
-        two : (b : Bool) → Refused P (magic-if b s)
-        two true = three (leb 50 (length s))
-        two false = differs
+        two : (x y : Bool) → Refused P (magic-if (edition-if x y) s)
+        two true y = three 20 (leb 50 (length s))
+        two false true = three 10 (leb 40 (length s))
+        two false false = differs
 
         one : (b : Bool) → Refused P (header-if b s)
-        one true = two (same (take 26 s) magic)
+        one true = two (same (take 26 s) magic) (same (take 26 s) older-magic)
         one false = early
 
     -- each section, then the bytes over

@@ -1,6 +1,6 @@
 -- A whole file read by places: the same refusals as reading it from the front, and the file of these places.
 use Prim.Native.Nat.{ℕ, zero, suc, _+_, _*_, _-_, _≤_, _<_}
-use mathlib.Core.Path.{_≡_, refl, ap}
+use mathlib.Core.Path.{_≡_, refl, ap, subst}
 use mathlib.Core.Bool.{Bool, true, false}
 use mathlib.Core.List.{List, [], _∷_}
 use native.Mathlib.Omega.{arith}
@@ -12,13 +12,13 @@ use Rattle.vmd_format.specs.Bytes.{before-zero}
 use Rattle.vmd_format.specs.Layout.{Layout, number, byte, flag, inverted, name, raw, _⊗_, as-record}
 use Rattle.vmd_format.specs.Refusal.{Refusal, file-ends-early, magic-differs}
 use Rattle.vmd_format.specs.Refusal as refusal
-use Rattle.vmd_format.specs.Answer.{Answer, declined, given, and-then}
+use Rattle.vmd_format.specs.Answer.{Answer, declined, given, and-then, unless}
 use Rattle.vmd_format.specs.Records.{Property, bone, morph, camera, light, self-shadow}
 use Rattle.vmd_format.specs.Read.{Step, refused, got, Reader, bind, fixed, many, Section, refuse, BytesOver, ignored, turned-down, Manner}
-use Rattle.vmd_format.specs.Take.{property, File, magic, same, model-if, magic-if, header-if, header, sections, ended, read-file}
+use Rattle.vmd_format.specs.Take.{property, File, Edition, newer, older, magic, older-magic, model-width, same, edition-if, edition, model-if, magic-if, header-if, header, sections, ended, read-file}
 use Rattle.vmd_format.specs.Opening.{ik-total, Extent, Scan, extent-of, scan-of}
 use Rattle.vmd_format.specs.Fetch.{model-in, model-of}
-use Rattle.vmd_format.specs.Places.{place-after, header-place, HeaderPlaces, header-places, Span, extent-in, span, optional-span, Walk, walk, over-if, scan-sections, scan-file, next-frame}
+use Rattle.vmd_format.specs.Places.{place-after, header-place, place-past, HeaderPlaces, header-places, Span, extent-in, span, optional-span, Walk, walk, over-if, scan-sections, scan-file, next-frame}
 use Rattle.vmd_format.specs.PlacesLaws.{Holds, table-length, Within, span-within, optional-within, section-by, counted-by, optional-by, section-in, fixed-by, frames-in, Walked, WalkAgrees, walk-agrees}
 
 -- the file of these places
@@ -195,19 +195,22 @@ pub data HeaderIs (s : List ℕ) : Step (List ℕ) → Type 0 where
   reads : (at : ℕ) → 30 ≤ at → at ≤ length s → HeaderIs s (got (before-zero (take (at - 30) (drop 30 s))) (drop at s))
 
 pub header-is : (s : List ℕ) → HeaderIs s (header s)
-unfolding header header-if magic-if model-if
+unfolding header header-if magic-if model-if edition edition-if
 header-is s = one (leb 30 (length s))
   where
-    three : (b : Bool) → leb 50 (length s) ≡ b → HeaderIs s (model-if b s)
-    three true e = reads 50 (omega arith) (leb-true _ _ e)
-    three false e = halts file-ends-early (omega arith)
+    three : (width : ℕ) (b : Bool) → leb (30 + width) (length s) ≡ b → HeaderIs s (model-if b width s)
+    three width true e =
+        let w : (30 + width) - 30 ≡ width = omega arith in
+        subst (λ n. HeaderIs s (got (before-zero (take n (drop 30 s))) (drop (30 + width) s))) w (reads (30 + width) (omega arith) (leb-true _ _ e))
+    three width false e = halts file-ends-early (omega arith)
 
-    two : (b : Bool) → HeaderIs s (magic-if b s)
-    two true = three (leb 50 (length s)) refl
-    two false = halts magic-differs (omega arith)
+    two : (x y : Bool) → HeaderIs s (magic-if (edition-if x y) s)
+    two true y = three 20 (leb 50 (length s)) refl
+    two false true = three 10 (leb 40 (length s)) refl
+    two false false = halts magic-differs (omega arith)
 
     one : (b : Bool) → HeaderIs s (header-if b s)
-    one true = two (same (take 26 s) magic)
+    one true = two (same (take 26 s) magic) (same (take 26 s) older-magic)
     one false = halts file-ends-early (omega arith)
 
 -- where the header says that the name stands, it stands, and the sections begin in the file
@@ -256,15 +259,46 @@ module _ (s : List ℕ) where
   unfolding header-place place-after header header-if
   header-short h = rw (lt-leb 30 (length s) h)
 
-  module _ (h : 30 ≤ length s) where
-    pub header-other : same (take 26 s) magic ≡ false → header-place s ≡ declined magic-differs
-    unfolding header-place place-after header header-if magic-if
-    header-other e = rw (le-leb 30 (length s) h, e)
+  -- which edition, by the two comparisons
+  pub edition-newer : same (take 26 s) magic ≡ true → edition s ≡ given newer
+  unfolding edition edition-if
+  edition-newer e = rw e
 
-    pub header-cut : same (take 26 s) magic ≡ true → length s < 50 → header-place s ≡ declined file-ends-early
-    unfolding header-place place-after header header-if magic-if model-if
-    header-cut e l = rw (le-leb 30 (length s) h, e, lt-leb 50 (length s) l)
+  pub edition-older : same (take 26 s) magic ≡ false → same (take 26 s) older-magic ≡ true → edition s ≡ given older
+  unfolding edition edition-if
+  edition-older e f = rw (e, f)
 
-    pub header-whole : same (take 26 s) magic ≡ true → 50 ≤ length s → header-place s ≡ given 50
-    unfolding header-place place-after header header-if magic-if model-if
-    header-whole e l = rw (le-leb 30 (length s) h, e, le-leb 50 (length s) l) (ap given (rw length-drop (omega arith)))
+  pub edition-other : same (take 26 s) magic ≡ false → same (take 26 s) older-magic ≡ false → edition s ≡ declined magic-differs
+  unfolding edition edition-if
+  edition-other e f = rw (e, f)
+
+  pub header-other : (k : Refusal) → 30 ≤ length s → edition s ≡ declined k → header-place s ≡ declined k
+  unfolding header-place place-after header header-if magic-if
+  header-other k h e = rw (le-leb 30 (length s) h, e)
+
+  -- a header of a known edition is refused for its length alone
+  module _ (v : Edition) (e : edition s ≡ given v) where
+    pub header-of : header s ≡ model-if (leb (30 + model-width v) (length s)) (model-width v) s
+    unfolding header header-if magic-if model-if
+    header-of = go (leb 30 (length s)) refl
+      where
+        go : (b : Bool) → leb 30 (length s) ≡ b → header-if b s ≡ model-if (leb (30 + model-width v) (length s)) (model-width v) s
+        go true q = rw e
+        go false q = rw (lt-leb (30 + model-width v) (length s) (omega (arith, leb-false 30 (length s) q)))
+
+    pub header-known : header-place s ≡ place-past (model-width v) s
+    unfolding header-place place-after model-if place-past unless
+    header-known = rw header-of (go (leb (30 + model-width v) (length s)) refl)
+      where
+        go : (b : Bool) → leb (30 + model-width v) (length s) ≡ b
+            → place-after s (model-if b (model-width v) s) ≡ unless b file-ends-early (given (30 + model-width v))
+        go true q = ap given (rw length-drop (omega (arith, leb-true (30 + model-width v) (length s) q)))
+        go false q = refl
+
+  pub past-short : (width : ℕ) → length s < 30 + width → place-past width s ≡ declined file-ends-early
+  unfolding place-past unless
+  past-short width l = rw (lt-leb (30 + width) (length s) l)
+
+  pub past-whole : (width : ℕ) → 30 + width ≤ length s → place-past width s ≡ given (30 + width)
+  unfolding place-past unless
+  past-whole width l = rw (le-leb (30 + width) (length s) l)

@@ -1,5 +1,5 @@
 -- A take: what a file says, how it is read and how it is written. Definitions only.
-use Prim.Native.Nat.{ℕ}
+use Prim.Native.Nat.{ℕ, _+_}
 use mathlib.Core.Bool.{Bool, true, false, _&&_}
 use mathlib.Core.List.{List, [], _∷_, _++_}
 use lib.ListN.{length, take, drop}
@@ -56,25 +56,50 @@ take-of f = record {
 unfoldable pub magic : List ℕ
 magic = 86 ∷ 111 ∷ 99 ∷ 97 ∷ 108 ∷ 111 ∷ 105 ∷ 100 ∷ 32 ∷ 77 ∷ 111 ∷ 116 ∷ 105 ∷ 111 ∷ 110 ∷ 32 ∷ 68 ∷ 97 ∷ 116 ∷ 97 ∷ 32 ∷ 48 ∷ 48 ∷ 48 ∷ 50 ∷ 0 ∷ []
 
+-- 02 e): "Old dances start with `Vocaloid Motion Data file` and a zero byte"
+unfoldable pub older-magic : List ℕ
+older-magic = 86 ∷ 111 ∷ 99 ∷ 97 ∷ 108 ∷ 111 ∷ 105 ∷ 100 ∷ 32 ∷ 77 ∷ 111 ∷ 116 ∷ 105 ∷ 111 ∷ 110 ∷ 32 ∷ 68 ∷ 97 ∷ 116 ∷ 97 ∷ 32 ∷ 102 ∷ 105 ∷ 108 ∷ 101 ∷ 0 ∷ []
+
+-- the editions of the format, and the magic and the bytes of model name of each
+pub data Edition : Type 0 where
+  newer : Edition
+  older : Edition
+
+unfoldable pub magic-of : Edition → List ℕ
+magic-of newer = magic
+magic-of older = older-magic
+
+abbrev pub model-width : Edition → ℕ
+model-width newer = 20
+model-width older = 10
+
 unfoldable pub same : List ℕ → List ℕ → Bool
 same [] [] = true
 same [] (b ∷ t) = false
 same (a ∷ s) [] = false
 same (a ∷ s) (b ∷ t) = eqb a b && same s t
 
--- "Then 20 bytes of model name; too few is 1." The sections begin after them.
-unfoldable pub model-if : Bool → Reader (List ℕ)
-model-if true s = got (before-zero (take 20 (drop 30 s))) (drop 50 s)
-model-if false s = refused file-ends-early
+-- "The file is VMD when its first 26 bytes equal the magic; bytes 26 to 29 may be anything." So it is with the older magic.
+unfoldable pub edition-if : Bool → Bool → Answer Edition
+edition-if true b = given newer
+edition-if false true = given older
+edition-if false false = declined magic-differs
+
+unfoldable pub edition : List ℕ → Answer Edition
+edition s = edition-if (same (take 26 s) magic) (same (take 26 s) older-magic)
+
+-- "Then 20 bytes of model name; too few is 1", and in the older edition 10. The sections begin after them.
+unfoldable pub model-if : Bool → ℕ → Reader (List ℕ)
+model-if true width s = got (before-zero (take width (drop 30 s))) (drop (30 + width) s)
+model-if false width s = refused file-ends-early
 
 -- "Else refusal 2, also when fewer than 50 bytes are there."
-unfoldable pub magic-if : Bool → Reader (List ℕ)
-magic-if true s = model-if (leb 50 (length s)) s
-magic-if false s = refused magic-differs
+unfoldable pub magic-if : Answer Edition → Reader (List ℕ)
+magic-if (given e) s = model-if (leb (30 + model-width e) (length s)) (model-width e) s
+magic-if (declined k) s = refused k
 
--- "The file is VMD when its first 26 bytes equal the magic; bytes 26 to 29 may be anything."
 unfoldable pub header-if : Bool → Reader (List ℕ)
-header-if true s = magic-if (same (take 26 s) magic) s
+header-if true s = magic-if (edition s) s
 header-if false s = refused file-ends-early
 
 -- "fewer than 30 bytes is refusal 1"
@@ -109,9 +134,10 @@ answer (got f s) = given (take-of f)
 unfoldable pub read-take : Manner → List ℕ → Answer Take
 read-take m s = answer (read-file m s)
 
--- "the 30-byte magic with its five zero bytes, names padded with zeros"
-unfoldable pub write-header : List ℕ → List ℕ
-write-header m = magic ++ (0 ∷ 0 ∷ 0 ∷ 0 ∷ padded 20 m)
+-- "the 30-byte magic with its five zero bytes, names padded with zeros"; in the older edition "with zeros after the magic and
+-- the name"
+unfoldable pub write-header : Edition → List ℕ → List ℕ
+write-header e m = magic-of e ++ (0 ∷ 0 ∷ 0 ∷ 0 ∷ padded (model-width e) m)
 
 -- "all six counts", each followed by its records
 unfoldable pub write-sections : Take → List ℕ
@@ -123,6 +149,10 @@ write-sections t =
     ++ (write-counted (fixed self-shadow) (t .self-shadows)
     ++ write-counted property (t .properties)))))
 
+-- the file of a take in an edition
+unfoldable pub write-edition : Edition → Take → List ℕ
+write-edition e t = write-header e (t .model) ++ write-sections t
+
 -- the canonical file of a take (document 01's term): the bytes that export writes
 unfoldable pub write-take : Take → List ℕ
-write-take t = write-header (t .model) ++ write-sections t
+write-take t = write-edition newer t

@@ -5,8 +5,8 @@ use mathlib.Core.Bool.{Bool, true, false}
 use mathlib.Core.List.{List, [], _∷_, _++_, append-assoc, append-nil}
 use native.Mathlib.Omega.{arith}
 use borrow.Author.Tests.{le-leb}
-use lib.ListN.{length, take, drop, length-append}
-use lib.Seq.{drop-at}
+use lib.ListN.{length, drop, length-append}
+use lib.Seq.{drop-at, drop-drop}
 use lib.Dec.{leb}
 use Rattle.vmd_format.specs.Bytes.{u32-bytes, padded}
 use Rattle.vmd_format.specs.BytesLaws.{Bytes, bytes-drop, bytes-append, all-bytes, bytes-tested, Name, padded-length, padded-small, padded-back, name-fair}
@@ -16,8 +16,8 @@ use Rattle.vmd_format.specs.ReadLaws.{Always, always-bind, All, CodecLaw
 use Rattle.vmd_format.specs.Records.{Property, bone, morph, camera, light, self-shadow, ik-state, property-head}
 use Rattle.vmd_format.specs.RecordLaws.{U32, GoodBone, bone-lawful, GoodMorph, morph-lawful, GoodCamera, camera-lawful, GoodLight, light-lawful, GoodSelfShadow, self-shadow-lawful, GoodIkState, ik-state-lawful, GoodHead, head-lawful}
 use Rattle.vmd_format.specs.Refusal.{file-ends-early}
-use Rattle.vmd_format.specs.Answer.{given}
-use Rattle.vmd_format.specs.Take.{property, Take, File, take-of, magic, same, model-if, magic-if, header-if, header, sections, ended, read-file, answer, read-take, write-header, write-sections, write-take}
+use Rattle.vmd_format.specs.Answer.{Answer, declined, given}
+use Rattle.vmd_format.specs.Take.{property, Take, File, take-of, magic, older-magic, Edition, newer, older, magic-of, model-width, same, edition-if, edition, model-if, magic-if, header-if, header, sections, ended, read-file, answer, read-take, write-header, write-sections, write-edition, write-take}
 
 abbrev pub GoodProperty : Property → Type 0
 GoodProperty p = U32 (p .frame) × (length (p .ik-states) < 2 ^ 32) × All GoodIkState (p .ik-states)
@@ -73,16 +73,23 @@ _then_ {s} {t} h k = record { small = bytes-append s t (h .small) (k .small) }
 section-small : {A : Type 0} {C : Codec A} {Good : A → Type 0} → CodecLaws C Good → (l : List A) → (length l < 2 ^ 32) × All Good l → Small (write-counted C l)
 section-small c l h = record { small = counted-small c l (h .1) }
 
-header-small : (m : List ℕ) → Name 20 m → Small (write-header m)
-unfolding write-header magic all-bytes
-header-small m h =
-    let start = magic ++ (0 ∷ 0 ∷ 0 ∷ 0 ∷ []) in
-    record { small = bytes-append start (padded 20 m) (bytes-tested start refl) (padded-small 20 m (h .small)) }
+magic-small : (e : Edition) → Bytes (magic-of e)
+unfolding magic-of magic older-magic all-bytes
+magic-small newer = bytes-tested magic refl
+magic-small older = bytes-tested older-magic refl
 
-written-small : (t : Take) → WellFormed t → Small (write-take t)
-unfolding write-take write-sections
-written-small t w =
-    header-small (t .model) (w .model)
+header-small : (e : Edition) (m : List ℕ) → Bytes m → Small (write-header e m)
+unfolding write-header all-bytes
+header-small e m h =
+    let zeros : List ℕ = 0 ∷ 0 ∷ 0 ∷ 0 ∷ [] in
+    let name = padded (model-width e) m in
+    let after = bytes-append zeros name (bytes-tested zeros refl) (padded-small (model-width e) m h) in
+    record { small = bytes-append (magic-of e) (zeros ++ name) (magic-small e) after }
+
+written-small : (e : Edition) (t : Take) → WellFormed t → Small (write-edition e t)
+unfolding write-edition write-sections
+written-small e t w =
+    header-small e (t .model) (w .model .small)
     then section-small (fixed-lawful bone-lawful) (t .bones) (w .bones)
     then section-small (fixed-lawful morph-lawful) (t .morphs) (w .morphs)
     then section-small (fixed-lawful camera-lawful) (t .cameras) (w .cameras)
@@ -90,34 +97,61 @@ written-small t w =
     then section-small (fixed-lawful self-shadow-lawful) (t .self-shadows) (w .self-shadows)
     then section-small property-lawful (t .properties) (w .properties)
 
-pub take-small : (t : Take) → WellFormed t → Bytes (write-take t)
-take-small t w = written-small t w .small
+pub edition-small : (e : Edition) (t : Take) → WellFormed t → Bytes (write-edition e t)
+edition-small e t w = written-small e t w .small
 
-header-back : (m rest : List ℕ) → Name 20 m → header (write-header m ++ rest) ≡ got m rest
-unfolding write-header header header-if magic-if model-if magic same
-header-back m rest h =
-    let s = write-header m ++ rest in
+pub take-small : (t : Take) → WellFormed t → Bytes (write-take t)
+unfolding write-take
+take-small t w = edition-small newer t w
+
+-- the first 30 bytes of a header, and what stands after them
+pub record Begun (e : Edition) (s rest : List ℕ) : Type 0 where
+  pub of-edition : edition s ≡ given e
+  pub after : drop 30 s ≡ rest
+  pub long : length s ≡ 30 + length rest
+
+pub begun : (e : Edition) (rest : List ℕ) → Begun e (magic-of e ++ (0 ∷ 0 ∷ 0 ∷ 0 ∷ rest)) rest
+unfolding edition edition-if magic-of magic older-magic same
+begun newer rest = record { of-edition = refl; after = refl; long = omega arith }
+begun older rest = record { of-edition = refl; after = refl; long = omega arith }
+
+header-back : (e : Edition) (m rest : List ℕ) → Name (model-width e) m → header (write-header e m ++ rest) ≡ got m rest
+unfolding write-header header header-if magic-if model-if
+header-back e m rest h =
+    let w = model-width e in
+    let s = magic-of e ++ (0 ∷ 0 ∷ 0 ∷ 0 ∷ (padded w m ++ rest)) in
+    let b = begun e (padded w m ++ rest) in
+    let l : 30 + w ≤ length s = rw (b .long, length-append, padded-length) (omega arith) in
     rw (
+      append-assoc,
       le-leb 30 (length s) (omega arith),
-      le-leb 50 (length s) (simp length-append (omega (arith, padded-length 20 m))),
-      padded-back 20 m rest h,
-      drop-at (padded 20 m) rest 20 (padded-length 20 m),
+      b .of-edition,
+      le-leb (30 + w) (length s) l,
+      ← drop-drop w 30 s,
+      b .after,
+      padded-back w m rest h,
+      drop-at (padded w m) rest w (padded-length w m),
     )
+
+-- a name of the older edition's width is one of the newer's
+name-wider : (e : Edition) (m : List ℕ) → Name (model-width e) m → Name 20 m
+name-wider newer m h = h
+name-wider older m h = record { short = omega (arith, h .short); none-zero = h .none-zero; small = h .small }
 
 header-fair : (s : List ℕ) → Bytes s → Always (λ m t. Name 20 m × Bytes t) (header s)
 unfolding header header-if magic-if model-if
 header-fair s h = one (leb 30 (length s))
   where
-    three : (b : Bool) → Always (λ m t. Name 20 m × Bytes t) (model-if b s)
-    three true = (name-fair 20 (drop 30 s) (bytes-drop 30 s h), bytes-drop 50 s h)
-    three false = tt
+    three : (e : Edition) (b : Bool) → Always (λ m t. Name 20 m × Bytes t) (model-if b (model-width e) s)
+    three e true = (name-wider e _ (name-fair (model-width e) (drop 30 s) (bytes-drop 30 s h)), bytes-drop (30 + model-width e) s h)
+    three e false = tt
 
-    two : (b : Bool) → Always (λ m t. Name 20 m × Bytes t) (magic-if b s)
-    two true = three (leb 50 (length s))
-    two false = tt
+    two : (x : Answer Edition) → Always (λ m t. Name 20 m × Bytes t) (magic-if x s)
+    two (given e) = three e (leb (30 + model-width e) (length s))
+    two (declined k) = tt
 
     one : (b : Bool) → Always (λ m t. Name 20 m × Bytes t) (header-if b s)
-    one true = two (same (take 26 s) magic)
+    one true = two (edition s)
     one false = tt
 
 -- what is read of a written take with more bytes after it: its records, each section at its place
@@ -158,11 +192,11 @@ sections-back m t rest w =
     ))
 
 -- a written take with any bytes after it is read as that take, and then the bytes over are looked at
-pub file-back : (m : Manner) (t : Take) (rest : List ℕ) → WellFormed t
-    → read-file m (write-take t ++ rest) ≡ ended (m .over) (file-of t rest) rest
-unfolding read-file write-take bind
-file-back m t rest w =
-    rw (append-assoc, header-back (t .model) (write-sections t ++ rest) (w .model), sections-back m t rest w)
+pub file-back : (m : Manner) (e : Edition) (t : Take) (rest : List ℕ) → WellFormed t → Name (model-width e) (t .model)
+    → read-file m (write-edition e t ++ rest) ≡ ended (m .over) (file-of t rest) rest
+unfolding read-file write-edition bind
+file-back m e t rest w n =
+    rw (append-assoc, header-back e (t .model) (write-sections t ++ rest) n, sections-back m t rest w)
 
 ended-nil : (o : BytesOver) (f : File) → ended o f [] ≡ got f []
 unfolding ended
@@ -170,14 +204,19 @@ ended-nil ignored f = refl
 ended-nil (turned-down k) f = refl
 
 -- writing a well-formed take reads back as that take, in every manner
-pub take-back : (m : Manner) (t : Take) → WellFormed t → read-take m (write-take t) ≡ given t
+pub edition-back : (m : Manner) (e : Edition) (t : Take) → WellFormed t → Name (model-width e) (t .model)
+    → read-take m (write-edition e t) ≡ given t
 unfolding read-take answer take-of file-of
-take-back m t w = rw (← append-nil (write-take t), file-back m t [] w, ended-nil)
+edition-back m e t w n = rw (← append-nil (write-edition e t), file-back m e t [] w n, ended-nil)
+
+pub take-back : (m : Manner) (t : Take) → WellFormed t → read-take m (write-take t) ≡ given t
+unfolding write-take
+take-back m t w = edition-back m newer t w (w .model)
 
 -- the same with any bytes after it, where they are ignored
 pub take-back-over : (t : Take) (rest : List ℕ) → WellFormed t → read-take lenient (write-take t ++ rest) ≡ given t
-unfolding read-take answer take-of file-of lenient ended
-take-back-over t rest w = ap answer (file-back lenient t rest w)
+unfolding read-take answer take-of file-of lenient ended write-take
+take-back-over t rest w = ap answer (file-back lenient newer t rest w (w .model))
 
 ended-fair : (o : BytesOver) (f : File) (s : List ℕ) → WellFormed (take-of f) → Always (λ g r. WellFormed (take-of g)) (ended o f s)
 unfolding ended

@@ -8,7 +8,7 @@ use lib.Dec.{T}
 use lib.ListN.{length}
 use Rattle.vmd_format.specs.Answer.{given, map-answer}
 use Rattle.vmd_format.specs.Read.{Manner, lenient}
-use Rattle.vmd_format.specs.Take.{same}
+use Rattle.vmd_format.specs.Take.{newer, same, write-take}
 use Rattle.vmd_format.specs.Opening.{Opening, open-file}
 use Rattle.vmd_format.specs.Join.{export-file, file-length}
 use Rattle.vmd_format.specs.Places.{scan-file}
@@ -24,10 +24,10 @@ use Rattle.vmd_line.specs.Line.{tens-if, digits, decimal, spaced, row, t
 -- the last number of the line is the length of the export
 pub export-is-as-long : (m : Manner) (s : List ℕ) (places : ℕ) (o : Opening) → open-file m s places ≡ given o
     → map-answer length (export-file m s) ≡ given (export-size (o .scan))
-unfolding map-answer export-size
+unfolding map-answer export-size write-take
 export-is-as-long m s places o e =
     let q : scan-file m s ≡ given (o .scan) = opened-scan m s places o e in
-    rw (export-by-places m s, q) (ap given (scan-length (take-in s (o .scan)) (o .scan) (scan-counts s (o .scan) (scan-scanned m s (o .scan) q))))
+    rw (export-by-places m s, q) (ap given (scan-length newer (take-in s (o .scan)) (o .scan) (scan-counts s (o .scan) (scan-scanned m s (o .scan) q))))
 
 -- ---- scratch enough
 

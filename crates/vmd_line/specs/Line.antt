@@ -8,6 +8,7 @@ use Rattle.vmd_format.specs.Refusal.{number}
 use Rattle.vmd_format.specs.Answer.{Answer, declined, given}
 use Rattle.vmd_format.specs.Read.{Manner}
 use Rattle.vmd_format.specs.Opening.{Scan, Opening, open-file, scratch-after}
+use Rattle.vmd_format.specs.Take.{newer}
 use Rattle.vmd_format.specs.Join.{file-length}
 
 -- ---- numbers in ASCII
@@ -49,7 +50,7 @@ refused-line n = 114 ∷ 101 ∷ 102 ∷ 117 ∷ 115 ∷ 101 ∷ 100 ∷ 32 ∷ 
 -- how long the export of these records is
 unfoldable pub export-size : Scan → ℕ
 export-size x =
-    file-length (x .bones .count) (x .morphs .count) (x .cameras .count) (x .lights .count) (x .self-shadows .count) (x .properties .count)
+    file-length newer (x .bones .count) (x .morphs .count) (x .cameras .count) (x .lights .count) (x .self-shadows .count) (x .properties .count)
     (x .ik-states)
 
 -- "bones, morphs, cameras, lights, self-shadows, properties, IK states, largest frame, export length"; the smallest frame

@@ -1,4 +1,5 @@
 // The line that vmd-list prints for a file, on slices.
+use vmd_base::VmdEdition;
 use vmd_base::VmdManner;
 use vmd_output::VmdWritten;
 use vmd_reader::VmdOpened;
@@ -86,6 +87,7 @@ fn export_size(sections: VmdSections) -> u64
 {
     match vmd_output::file_size(
         vmd_output::LARGEST,
+        VmdEdition::Newer,
         sections.bones.count,
         sections.morphs.count,
         sections.cameras.count,

@@ -1,36 +1,40 @@
 -- Laws of what is written: the header, and a section. Assumes nothing.
-use Prim.Native.Nat.{ℕ, _+_}
+use Prim.Native.Nat.{ℕ, _+_, _≤_}
 use mathlib.Core.Path.{_≡_, refl, _∙_}
 use mathlib.Core.List.{List, [], _∷_, _++_, append-assoc}
 use native.Mathlib.Omega.{arith}
 use lib.ListN.{length, drop, length-append}
 use Rattle.vmd_format.specs.Bytes.{u32-bytes, padded}
-use Rattle.vmd_format.specs.BytesLaws.{padded-length}
 use Rattle.vmd_format.specs.Layout.{Layout}
 use Rattle.vmd_format.specs.Read.{Codec, fixed, table, write-all, write-counted}
-use Rattle.vmd_format.specs.Take.{property, magic, write-header}
+use Rattle.vmd_format.specs.Take.{property, Edition, magic-of, model-width, write-header}
+use Rattle.vmd_format.specs.Lengths.{magic-length, header-length}
 use Rattle.vmd_format.specs.Opening.{Extent}
 use Rattle.vmd_format.specs.PlacesLaws.{table-length, frames-in}
 use Rattle.vmd_format.specs.ScanLaws.{frames-length}
 use Rattle.vmd_bytes.specs.Slices.{splice}
-use Rattle.vmd_bytes.proofs.Laws.{splice-append}
+use Rattle.vmd_bytes.proofs.Laws.{splice-append-at}
 use Rattle.vmd_bytes.specs.Written.{Room, Wrote, Rest}
 use Rattle.vmd_bytes.proofs.Writes.{rest-as}
 use Rattle.vmd_output.specs.Sections.{rows, frame-rows, records-of, frames-of}
 
 -- ---- the header
 
-pub header-length : (m : List ℕ) → length (write-header m) ≡ 50
-unfolding write-header magic
-header-length m = omega (arith, padded-length 20 m)
+-- the magic with its zeros
+start-length : (e : Edition) → length (magic-of e ++ (0 ∷ 0 ∷ 0 ∷ 0 ∷ [])) ≡ 30
+start-length e = simp length-append (omega (arith, magic-length e))
 
-pub header-wrote : {l x y : List ℕ} (m : List ℕ) → Room l 0 (write-header m) → x ≡ splice l 0 (magic ++ (0 ∷ 0 ∷ 0 ∷ 0 ∷ []))
-    → y ≡ splice x 30 (padded 20 m) → Wrote l 0 (write-header m) y 50
-unfolding write-header magic
-header-wrote {l} m h a b = record {
-  holds = b ∙ rw a (splice-append l 0 (magic ++ (0 ∷ 0 ∷ 0 ∷ 0 ∷ [])) (padded 20 m) (omega (arith, h .room, header-length m)));
-  ends = omega (arith, header-length m);
-}
+module _ (e : Edition) {l : List ℕ} (m : List ℕ) (h : Room l 0 (write-header e m)) where
+  pub header-room : 30 + model-width e ≤ length l
+  header-room = omega (arith, h .room, header-length e m)
+
+  pub header-wrote : {x y : List ℕ} → x ≡ splice l 0 (magic-of e ++ (0 ∷ 0 ∷ 0 ∷ 0 ∷ []))
+      → y ≡ splice x 30 (padded (model-width e) m) → Wrote l 0 (write-header e m) y (30 + model-width e)
+  unfolding write-header
+  header-wrote {x} {y} a b = record {
+    holds = b ∙ rw (a, splice-append-at l 0 (magic-of e ++ (0 ∷ 0 ∷ 0 ∷ 0 ∷ [])) (padded (model-width e) m) 30 (start-length e) (omega (arith, header-room)), append-assoc);
+    ends = omega (arith, header-length e m);
+  }
 
 -- ---- a section: the count of both, the first file's records, the second's
 

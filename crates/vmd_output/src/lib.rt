@@ -1,6 +1,7 @@
 // The writing of a file, for every call that writes one: what it answers, how long a file is, the header, a count, and a
 // section from records of one file or two. Internal, but for the answer: callers see to the room. Every writer gives the place
 // after what it wrote, where the next one goes on.
+use vmd_base::VmdEdition;
 use vmd_base::VmdRefusal;
 use vmd_base::VmdSection;
 use vmd_records::VmdKind;
@@ -12,15 +13,18 @@ use vmd_records::VmdParsedMorphFrame;
 use vmd_records::VmdParsedPropertyFrame;
 use vmd_records::VmdParsedSelfShadowFrame;
 ghost use mathlib.Core.Path.{_≡_};
-ghost use Prim.Native.Nat.{_+_};
+ghost use mathlib.Core.List.{[], _∷_, _++_};
+ghost use Prim.Native.Nat.{_+_, _≤_};
+ghost use lib.ListN.{length};
 ghost use Rattle.vmd_format.specs.Answer.{within};
 ghost use Rattle.vmd_format.specs.Bytes.{u32-bytes};
 ghost use Rattle.vmd_format.specs.Read.{fixed, write-counted};
-ghost use Rattle.vmd_format.specs.Take.{property, write-header};
+ghost use Rattle.vmd_format.specs.Take.{property, magic-of, write-header};
 ghost use Rattle.vmd_format.specs.Join.{file-length};
-ghost use Rattle.vmd_base.specs.Meaning.{extent-is};
+ghost use Rattle.vmd_base.specs.Meaning.{edition-is, extent-is};
 ghost use Rattle.vmd_records.specs.Kinds.{layout, size-of};
 ghost use Rattle.vmd_output.specs.Meaning.{written-answer};
+ghost use Rattle.vmd_bytes.specs.Slices.{splice};
 ghost use Rattle.vmd_bytes.specs.Written.{Room, Wrote};
 ghost use Rattle.vmd_output.specs.Sections.{BothWithin, Frames, records-of, frames-of};
 
@@ -34,8 +38,8 @@ pub enum VmdWritten {
 
 const COUNT_SIZE: usize = 4;
 
-// A file of no records: the header and six counts.
-pub const LEAST_SIZE: usize = vmd_base::HEADER_SIZE + 6 * COUNT_SIZE;
+// The magic and six counts: a file of no records, without the field of the model name.
+pub const BARE_SIZE: usize = vmd_base::MAGIC_SIZE + 6 * COUNT_SIZE;
 
 // The largest length of an output.
 pub const LARGEST: usize = 0xffff_ffff_ffff_ffff;
@@ -56,6 +60,7 @@ pub fn size_within(limit: usize, front: usize, rest: usize) -> VmdWritten
 // The size of a file of so many records. Only the IK states can be so many that the sum would not fit.
 pub fn file_size(
     limit: usize,
+    edition: VmdEdition,
     bones: u32,
     morphs: u32,
     cameras: u32,
@@ -64,10 +69,11 @@ pub fn file_size(
     properties: u32,
     ik_states: u64,
 ) -> VmdWritten
-    ensures { λ r. ⌜ written-answer r ≡ within limit (file-length bones morphs cameras lights «self_shadows» properties «ik_states») ⌝ }
+    ensures { λ r. ⌜ written-answer r ≡ within limit (file-length (edition-is edition) bones morphs cameras lights «self_shadows» properties «ik_states») ⌝ }
 {
     let states = ik_states as usize;
-    let front = LEAST_SIZE
+    let front = BARE_SIZE
+        + edition.model_width()
         + VmdParsedBoneFrame::SIZE * bones as usize
         + VmdParsedMorphFrame::SIZE * morphs as usize
         + VmdParsedCameraFrame::SIZE * cameras as usize
@@ -82,13 +88,28 @@ pub fn file_size(
 
 // ---- the header, and a count
 
-pub fn write_header(out: &mut [u8], model: &[u8]) -> usize
-    requires { ⌜ Room (now out) 0 (write-header (now model)) ⌝ }
-    ensures { λ r. ⌜ Wrote (now (out .entry)) 0 (write-header (now (model .entry))) (now (out .exit)) r ⌝ }
+fn write_magic(out: &mut [u8], edition: VmdEdition)
+    requires { ⌜ 30 ≤ length (now out) ⌝ }
+    ensures { λ _. ⌜ now (out .exit) ≡ splice (now (out .entry)) 0 (magic-of (edition-is edition) ++ (0 ∷ 0 ∷ 0 ∷ 0 ∷ [])) ⌝ }
 {
-    vmd_bytes::copy_bytes(&vmd_base::VMD_MAGIC, 0, out, 0, vmd_base::MAGIC_SIZE);
-    vmd_bytes::write_fixed_bytes(model, out, vmd_base::MAGIC_SIZE, vmd_base::MODEL_WIDTH);
-    vmd_base::HEADER_SIZE
+    match edition {
+        VmdEdition::Newer => {
+            vmd_bytes::copy_bytes(&vmd_base::VMD_MAGIC, 0, out, 0, vmd_base::MAGIC_SIZE);
+        }
+        VmdEdition::Older => {
+            vmd_bytes::copy_bytes(&vmd_base::OLDER_MAGIC, 0, out, 0, vmd_base::MAGIC_SIZE);
+        }
+    }
+}
+
+pub fn write_header(out: &mut [u8], edition: VmdEdition, model: &[u8]) -> usize
+    requires { ⌜ Room (now out) 0 (write-header (edition-is edition) (now model)) ⌝ }
+    ensures { λ r. ⌜ Wrote (now (out .entry)) 0 (write-header (edition-is edition) (now (model .entry))) (now (out .exit)) r ⌝ }
+{
+    let width = edition.model_width();
+    write_magic(out, edition);
+    vmd_bytes::write_fixed_bytes(model, out, vmd_base::MAGIC_SIZE, width);
+    vmd_base::MAGIC_SIZE + width
 }
 
 pub fn write_count(out: &mut [u8], to: usize, n: u32) -> usize

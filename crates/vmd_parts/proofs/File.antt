@@ -11,7 +11,7 @@ use Rattle.vmd_format.specs.Answer.{declined, given, within}
 use Rattle.vmd_format.specs.Bytes.{u32-bytes}
 use Rattle.vmd_format.specs.Records.{Bone, Morph, bone, morph}
 use Rattle.vmd_format.specs.Read.{table, fixed, write-all, write-counted}
-use Rattle.vmd_format.specs.Take.{property, write-header, write-sections, write-take}
+use Rattle.vmd_format.specs.Take.{newer, property, write-header, write-sections, write-edition, write-take}
 use Rattle.vmd_format.specs.Opening.{Extent}
 use Rattle.vmd_format.specs.Places.{Reaches}
 use Rattle.vmd_format.specs.PlacesLaws.{table-length}
@@ -45,7 +45,7 @@ morphs t i fs ws = map (morph-of t i fs ws) (upto 0 (length i))
 pub front-rest : {t u : NameTable} {i fs tr ro ip j gs ws l : List ℕ} (b : BonesFit t i fs tr ro ip) (c : MorphsFit u j gs ws) (m : List ℕ)
     → Room l 0 (front-bytes m (bones t i fs tr ro ip) (morphs u j gs ws))
     → Rest l 0 (front-bytes m (bones t i fs tr ro ip) (morphs u j gs ws)) l 0
-    (write-header m ++ (u32-bytes (length i) ++ (write-all (bone .encode) (bones t i fs tr ro ip) ++ (u32-bytes (length j) ++ write-all (morph .encode) (morphs u j gs ws)))))
+    (write-header newer m ++ (u32-bytes (length i) ++ (write-all (bone .encode) (bones t i fs tr ro ip) ++ (u32-bytes (length j) ++ write-all (morph .encode) (morphs u j gs ws)))))
 unfolding front-bytes write-counted fixed
 front-rest {t} {u} {i} {fs} {tr} {ro} {ip} {j} {gs} {ws} b c m h =
     rest-as (rw (column-length (bone-of t i fs tr ro ip) (length i), column-length (morph-of u j gs ws) (length j)) (simp append-assoc)) h
@@ -125,7 +125,7 @@ abbrev morphs-in : Parts → List Morph
 morphs-in p = morphs (p .morph-names) (p .morph-name-indices) (p .morph-frames) (p .morph-weights)
 
 halves : (p : Parts) → write-take (take-of-parts p) ≡ front-bytes (p .model) (bones-in p) (morphs-in p) ++ back-bytes (p .cameras) (p .lights) (p .self-shadows) (p .properties)
-unfolding front-bytes back-bytes write-take write-sections take-of-parts bone-at morph-at bone-of morph-of
+unfolding front-bytes back-bytes write-take write-edition write-sections take-of-parts bone-at morph-at bone-of morph-of
 halves p = simp append-assoc
 
 pub built-refused : (p : Parts) (out : List ℕ) {k : Refusal} → parts-check p ≡ fails k → Saves (build p) out (declined k) out

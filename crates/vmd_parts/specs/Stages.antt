@@ -5,12 +5,12 @@ use mathlib.Core.Bool.{true}
 use mathlib.Core.List.{List, _++_}
 use lib.ListN.{length}
 use Rattle.vmd_format.specs.Read.{fixed, write-counted}
-use Rattle.vmd_format.specs.Take.{property, write-header}
+use Rattle.vmd_format.specs.Take.{newer, property, write-header}
 use Rattle.vmd_format.specs.Records.{Bone, Morph, bone, morph, camera, light, self-shadow}
 use Rattle.vmd_format.specs.Parts.{records-of, frames, properties-of, is-got}
 
 unfoldable pub front-bytes : List ℕ → List Bone → List Morph → List ℕ
-front-bytes m b f = write-header m ++ (write-counted (fixed bone) b ++ write-counted (fixed morph) f)
+front-bytes m b f = write-header newer m ++ (write-counted (fixed bone) b ++ write-counted (fixed morph) f)
 
 -- record bytes as the checks let them through
 pub record RecordsFit (c l s p : List ℕ) : Type 0 where

@@ -43,7 +43,8 @@ fn parts_size(
     requires { ⌜ (bones ≤ 4294967295) × (morphs ≤ 4294967295) × (cameras ≤ 261993004995) × (lights ≤ 120259084260) × («self_shadows» ≤ 38654705655) ⌝ }
     ensures { λ r. ⌜ written-answer r ≡ within limit (74 + 111 * bones + 23 * morphs + cameras + lights + «self_shadows» + properties) ⌝ }
 {
-    let front = vmd_output::LEAST_SIZE
+    let front = vmd_output::BARE_SIZE
+        + vmd_base::MODEL_WIDTH
         + BONE_SIZE * bones
         + MORPH_SIZE * morphs
         + cameras
@@ -163,7 +164,7 @@ fn write_front(
 {
     let bones = bone_name_indices.len();
     let morphs = morph_name_indices.len();
-    let p = vmd_output::write_header(out, model_name);
+    let p = vmd_output::write_header(out, vmd_base::VmdEdition::Newer, model_name);
     let q = vmd_output::write_count(out, p, bones as u32);
     let r = vmd_write_columns::write_bone_frames(
         bone_name_bytes,

@@ -1,10 +1,10 @@
 // Finding the sections of a file by places: the cursor, the header, the section counts and the property frames. Internal:
 // callers see to the lengths where a contract asks it.
-use vmd_base::HEADER_SIZE;
 use vmd_base::MAGIC_COMPARED;
 use vmd_base::MAGIC_SIZE;
-use vmd_base::MODEL_WIDTH;
+use vmd_base::OLDER_MAGIC;
 use vmd_base::VMD_MAGIC;
+use vmd_base::VmdEdition;
 use vmd_base::VmdManner;
 use vmd_base::VmdPart;
 use vmd_base::VmdRefusal;
@@ -23,10 +23,11 @@ ghost use Prim.Native.Nat.{_+_, _*_, _-_, _≤_};
 ghost use lib.Dec.{leb};
 ghost use lib.ListN.{length, drop};
 ghost use Rattle.vmd_format.specs.Answer.{given, map-answer};
+ghost use Rattle.vmd_format.specs.Take.{model-width};
 ghost use Rattle.vmd_format.specs.Fetch.{model-of};
-ghost use Rattle.vmd_format.specs.Places.{header-place, header-places, no-span, over-span, span, optional-span, walk, over-if, scan-sections, scan-file, next-frame, frame-places, scan-frames, Reaches};
+ghost use Rattle.vmd_format.specs.Places.{header-place, place-past, header-places, no-span, over-span, span, optional-span, walk, over-if, scan-sections, scan-file, next-frame, frame-places, scan-frames, Reaches};
 ghost use Rattle.vmd_format.specs.ScanLaws.{ExtentWithin, Inside};
-ghost use Rattle.vmd_base.specs.Meaning.{manner-of, extent-is};
+ghost use Rattle.vmd_base.specs.Meaning.{edition-is, manner-of, extent-is};
 ghost use Rattle.vmd_records.specs.Kinds.{size-of};
 ghost use Rattle.vmd_places.specs.Parts.{file-part};
 ghost use Rattle.vmd_scan.specs.Stages.{read-number, optional-number, counted-span, scan-front, scan-back, scan-joined, scan-end};
@@ -282,6 +283,23 @@ impl ByteReader {
 
 // ---- the header
 
+// The header of a file that is of this edition.
+fn header_of(file: &[u8], edition: VmdEdition) -> HeaderAnswer
+    ensures { λ r. ⌜ header-answer r ≡ map-answer header-places (place-past (model-width (edition-is edition)) (now (file .entry))) ⌝ }
+{
+    let width = edition.model_width();
+    if file.len() < MAGIC_SIZE + width {
+        return HeaderAnswer::Refused(VmdRefusal::FileEndsEarly);
+    }
+    HeaderAnswer::Read(VmdHeader {
+        name: MAGIC_SIZE,
+        width,
+        sections: ByteReader {
+            pos: MAGIC_SIZE + width,
+        },
+    })
+}
+
 pub fn read_header(file: &[u8]) -> HeaderAnswer
     ensures { λ r. ⌜ header-answer r ≡ map-answer header-places (header-place (now (file .entry))) ⌝ }
 {
@@ -289,14 +307,10 @@ pub fn read_header(file: &[u8]) -> HeaderAnswer
         return HeaderAnswer::Refused(VmdRefusal::FileEndsEarly);
     }
     if vmd_bytes::same_start(file, &VMD_MAGIC, MAGIC_COMPARED) {
-        if file.len() < HEADER_SIZE {
-            return HeaderAnswer::Refused(VmdRefusal::FileEndsEarly);
-        }
-        return HeaderAnswer::Read(VmdHeader {
-            name: MAGIC_SIZE,
-            width: MODEL_WIDTH,
-            sections: ByteReader { pos: HEADER_SIZE },
-        });
+        return header_of(file, VmdEdition::Newer);
+    }
+    if vmd_bytes::same_start(file, &OLDER_MAGIC, MAGIC_COMPARED) {
+        return header_of(file, VmdEdition::Older);
     }
     HeaderAnswer::Refused(VmdRefusal::MagicDiffers)
 }

@@ -6,7 +6,8 @@ use mathlib.Core.List.{List, [], _∷_, map}
 use lib.ListN.{length, take, drop}
 use Rattle.vmd_format.specs.Bytes.{u32}
 use Rattle.vmd_format.specs.Records.{Bone, Camera}
-use Rattle.vmd_format.specs.Take.{Take}
+use Rattle.vmd_format.specs.Answer.{Answer, declined, given}
+use Rattle.vmd_format.specs.Take.{Take, Edition, model-width, edition}
 
 -- what may differ: the bytes after a name's first zero byte, or these and the interpolation bytes
 pub data Differing : Type 0 where
@@ -95,12 +96,17 @@ SameSections d (l ∷ r) s t =
 abbrev pub all-stretches : List (List Stretch)
 all-stretches = bone-stretches ∷ morph-stretches ∷ camera-stretches ∷ light-stretches ∷ self-shadow-stretches ∷ []
 
+-- how wide the field of the model name is; with another magic both files are refused, and any width would do
+abbrev pub field-width : Answer Edition → ℕ
+field-width (given e) = model-width e
+field-width (declined k) = 20
+
 -- The magic's field, the model name's, and the sections. Where a file ends early both do.
 pub record DifferOnly (d : Differing) (s t : List ℕ) : Type 0 where
   pub long : length s ≡ length t
   pub magic : take 30 s ≡ take 30 t
-  pub model : SameName (take 20 (drop 30 s)) (take 20 (drop 30 t))
-  pub sections : SameSections d all-stretches (drop 50 s) (drop 50 t)
+  pub model : SameName (take (field-width (edition s)) (drop 30 s)) (take (field-width (edition s)) (drop 30 t))
+  pub sections : SameSections d all-stretches (drop (30 + field-width (edition s)) s) (drop (30 + field-width (edition s)) t)
 
 -- of two lists each file and the other's of the same number
 abbrev pub DifferEach : Differing → List (List ℕ) → List (List ℕ) → Type 0

@@ -16,9 +16,9 @@ use Rattle.vmd_format.specs.Refusal.{file-ends-early}
 use Rattle.vmd_format.specs.Answer.{Answer, declined, given, map-answer}
 use Rattle.vmd_format.specs.Records.{Bone, Camera, IkState, Property, bone, morph, camera, light, self-shadow, ik-state, property-head}
 use Rattle.vmd_format.specs.Read.{Step, refused, got, Reader, bind, Codec, whole, whole-if, fixed, many, table, Section, no-section, Oversized, refuse, emptied, over-count, records-if, counted-if, counted, optional, BytesOver, ignored, turned-down, Manner}
-use Rattle.vmd_format.specs.Take.{property, Take, File, take-of, magic, same, model-if, magic-if, header-if, header, ended, sections, read-file, answer, read-take}
+use Rattle.vmd_format.specs.Take.{property, Take, File, take-of, Edition, model-width, edition, model-if, magic-if, header-if, header, ended, sections, read-file, answer, read-take}
 use Rattle.vmd_format.specs.PlacesLaws.{many-table}
-use Rattle.vmd_season.specs.Differ.{Differing, names, names-and-interpolation, Stretch, named, interpolating, others, wide, SameName, SameStretch, bone-stretches, morph-stretches, camera-stretches, light-stretches, self-shadow-stretches, ik-state-stretches, width, SameRecord, SameRecords, SameFrames, SameSections, all-stretches, DifferOnly, bone-without, camera-without, without-interpolation}
+use Rattle.vmd_season.specs.Differ.{Differing, names, names-and-interpolation, Stretch, named, interpolating, others, wide, SameName, SameStretch, bone-stretches, morph-stretches, camera-stretches, light-stretches, self-shadow-stretches, ik-state-stretches, width, SameRecord, SameRecords, SameFrames, SameSections, all-stretches, field-width, DifferOnly, bone-without, camera-without, without-interpolation}
 
 -- ---- bytes
 
@@ -353,20 +353,27 @@ module _ (d : Differing) where
       together-bind _ _ SameTake Anything _ _ _ _ (properties-same j j′ la ra) λ p p′ q q′ pp lp rp.
       ended-same (m .over) _ _ q q′ (λ z. record { model = n z; bones = pb z; morphs = pf z; cameras = pc z; lights = pl z; self-shadows = pa z; properties = pp z }) rp
 
+  edition-same : (s t : List ℕ) → DifferOnly d s t → edition s ≡ edition t
+  unfolding edition
+  edition-same s t h = rw (front 26 4 s t (h .magic))
+
   header-same : (s t : List ℕ) → DifferOnly d s t → Together Equal (SameSections d all-stretches) (header s) (header t)
   unfolding header header-if magic-if model-if
   header-same s t h = rw (← h .long) (one (leb 30 (length s)))
     where
-      three : (b : Bool) → Together Equal (SameSections d all-stretches) (model-if b s) (model-if b t)
-      three true = (name-same (take 20 (drop 30 s)) (take 20 (drop 30 t)) (h .model), length-after 50 s t (h .long), h .sections)
-      three false = refl
+      three : (b : Bool) (x : Answer Edition) → edition s ≡ x
+          → Together Equal (SameSections d all-stretches) (model-if b (field-width x) s) (model-if b (field-width x) t)
+      three true x e =
+          let w = field-width (edition s) in
+          rw (← e) (name-same (take w (drop 30 s)) (take w (drop 30 t)) (h .model), length-after (30 + w) s t (h .long), h .sections)
+      three false x e = refl
 
-      two : (b : Bool) → Together Equal (SameSections d all-stretches) (magic-if b s) (magic-if b t)
-      two true = rw (← h .long) (three (leb 50 (length s)))
-      two false = refl
+      two : (x : Answer Edition) → edition s ≡ x → Together Equal (SameSections d all-stretches) (magic-if x s) (magic-if x t)
+      two (given e) q = rw (← h .long) (three (leb (30 + model-width e) (length s)) (given e) q)
+      two (declined k) q = refl
 
       one : (b : Bool) → Together Equal (SameSections d all-stretches) (header-if b s) (header-if b t)
-      one true = rw (← front 26 4 s t (h .magic)) (two (same (take 26 s) magic))
+      one true = rw (← edition-same s t h) (two (edition s) refl)
       one false = refl
 
   reads-alike : (m : Manner) (s t : List ℕ) → DifferOnly d s t → map-answer kept (read-take m s) ≡ map-answer kept (read-take m t)
@@ -449,7 +456,7 @@ module _ (d : Differing) where
   sections-self (l ∷ r) s = (refl, records-self l (u32 s) (drop 4 s), sections-self r (drop (u32 s * width l) (drop 4 s)))
 
   pub differ-self : (s : List ℕ) → DifferOnly d s s
-  differ-self s = record { long = refl; magic = refl; model = name-self (take 20 (drop 30 s)); sections = sections-self all-stretches (drop 50 s) }
+  differ-self s = record { long = refl; magic = refl; model = name-self (take (field-width (edition s)) (drop 30 s)); sections = sections-self all-stretches (drop (30 + field-width (edition s)) s) }
 
 -- what differs only after names differs in no more where interpolation may too
 stretch-wider : (x : Stretch) (s t : List ℕ) → SameStretch names x s t → SameStretch names-and-interpolation x s t
@@ -477,4 +484,4 @@ sections-wider [] s t h = (h .0, frames-wider (u32 s) (drop 4 s) (drop 4 t) (h .
 sections-wider (l ∷ r) s t h = (h .0, records-wider l (u32 s) (drop 4 s) (drop 4 t) (h .1), sections-wider r _ _ (h .2))
 
 pub differ-wider : (s t : List ℕ) → DifferOnly names s t → DifferOnly names-and-interpolation s t
-differ-wider s t h = record { long = h .long; magic = h .magic; model = h .model; sections = sections-wider all-stretches (drop 50 s) (drop 50 t) (h .sections) }
+differ-wider s t h = record { long = h .long; magic = h .magic; model = h .model; sections = sections-wider all-stretches _ _ (h .sections) }

@@ -7,10 +7,10 @@ use mathlib.Core.List.{List, [], _∷_, _++_}
 use lib.ListN.{getD, replicate}
 use lib.Dec.{T, eqb}
 use Rattle.vmd_format.specs.Read.{lenient}
-use Rattle.vmd_format.specs.Computed.{computed, text, start, fours, u0, u1, bone-bytes, morph-bytes, camera-bytes, light-bytes, shadow-bytes, ik-bytes}
+use Rattle.vmd_format.specs.Computed.{computed, text, older-text, start, fours, u0, u1, bone-bytes, morph-bytes, camera-bytes, light-bytes, shadow-bytes, ik-bytes}
 use Rattle.vmd_keys.specs.Names.{bone-names-of, morph-names-of, keep-if, select, distinct}
 use Rattle.vmd_season.specs.Season.{SectionFigures, Season, no-section-figures, no-takes, TakeFigures, figures-of, records-of, largest-figure, totals-fit, take-fits, with-count, with-take, with-refused, taken-if, with-answer, with-file, season-from, season, mean-if, mean}
-use Rattle.vmd_season.specs.Differ.{names, names-and-interpolation, SameName, SameRecords, SameFrames, SameSections, DifferOnly, DifferEach}
+use Rattle.vmd_season.specs.Differ.{names, names-and-interpolation, SameName, SameRecords, SameFrames, SameSections, all-stretches, DifferOnly, DifferEach}
 use Rattle.vmd_season.specs.DifferLaws.{name-self, differ-self}
 
 -- unfolding this and `computed` unfolds the definitions of the figures
@@ -122,35 +122,41 @@ first-told = (refl, refl)
 abbrev numbers : List ℕ
 numbers = fours (1 ∷ 2 ∷ 3 ∷ 4 ∷ 5 ∷ 6 ∷ 7 ∷ 8 ∷ [])
 
-abbrev posed : ℕ → ℕ → List ℕ
-posed j i =
-    text ++ u0 ++ (0 ∷ replicate 19 j)
-    ++ fours (2 ∷ []) ++ (65 ∷ 0 ∷ replicate 13 j) ++ numbers ++ replicate 64 i ++ replicate 15 66 ++ numbers ++ replicate 64 i
+abbrev after-header : ℕ → ℕ → List ℕ
+after-header j i =
+    fours (2 ∷ []) ++ (65 ∷ 0 ∷ replicate 13 j) ++ numbers ++ replicate 64 i ++ replicate 15 66 ++ numbers ++ replicate 64 i
     ++ fours (2 ∷ []) ++ (0 ∷ replicate 14 j) ++ fours (1 ∷ 2 ∷ []) ++ morph-bytes 66 j 6
     ++ fours (2 ∷ []) ++ numbers ++ replicate 24 i ++ fours (9 ∷ []) ++ (0 ∷ []) ++ numbers ++ replicate 24 i ++ fours (9 ∷ []) ++ (0 ∷ [])
     ++ u0 ++ u0 ++ fours (2 ∷ [])
     ++ fours (9 ∷ []) ++ (1 ∷ []) ++ fours (2 ∷ []) ++ ik-bytes 69 j 1 ++ (0 ∷ replicate 19 j) ++ (1 ∷ [])
     ++ fours (9 ∷ []) ++ (1 ∷ []) ++ fours (2 ∷ []) ++ ik-bytes 70 j 1 ++ replicate 20 71 ++ (1 ∷ [])
 
+-- in the newer edition and in the older
+abbrev posed : ℕ → ℕ → List ℕ
+posed j i = text ++ u0 ++ (0 ∷ replicate 19 j) ++ after-header j i
+
+abbrev older-posed : ℕ → ℕ → List ℕ
+older-posed j i = older-text ++ u0 ++ (0 ∷ replicate 9 j) ++ after-header j i
+
 -- as wide as the field
 abbrev full : SameName (replicate 15 66) (replicate 15 66) × SameName (replicate 20 71) (replicate 20 71)
 full = (name-self (replicate 15 66), name-self (replicate 20 71))
 
-pub differ-told : DifferOnly names (posed 1 5) (posed 2 5) × DifferOnly names-and-interpolation (posed 1 5) (posed 2 6)
+sections-told : SameSections names all-stretches (after-header 1 5) (after-header 2 5)
+    × SameSections names-and-interpolation all-stretches (after-header 1 5) (after-header 2 6)
 unfolding computed SameRecords SameFrames SameSections
+sections-told = (
+  (refl, (((refl, refl), (refl, (refl, tt))), ((full .0, (refl, (refl, tt))), tt)), (refl, ((refl, (refl, tt)), (((refl, refl), (refl, tt)), tt)), (refl, ((refl, (refl, (refl, tt))), ((refl, (refl, (refl, tt))), tt)), (refl, tt, (refl, tt, (refl, (refl, (((refl, refl), (refl, tt)), ((refl, (refl, tt)), tt)), (refl, (((refl, refl), (refl, tt)), ((full .1, (refl, tt)), tt)), refl)))))))),
+  (refl, (((refl, refl), (refl, (refl, tt))), ((full .0, (refl, (refl, tt))), tt)), (refl, ((refl, (refl, tt)), (((refl, refl), (refl, tt)), tt)), (refl, ((refl, (refl, (refl, tt))), ((refl, (refl, (refl, tt))), tt)), (refl, tt, (refl, tt, (refl, (refl, (((refl, refl), (refl, tt)), ((refl, (refl, tt)), tt)), (refl, (((refl, refl), (refl, tt)), ((full .1, (refl, tt)), tt)), refl)))))))),
+)
+
+pub differ-told : DifferOnly names (posed 1 5) (posed 2 5) × DifferOnly names-and-interpolation (posed 1 5) (posed 2 6)
+    × DifferOnly names-and-interpolation (older-posed 1 5) (older-posed 2 6)
+unfolding computed
 differ-told = (
-  record {
-    long = refl;
-    magic = refl;
-    model = refl;
-    sections = (refl, (((refl, refl), (refl, (refl, tt))), ((full .0, (refl, (refl, tt))), tt)), (refl, ((refl, (refl, tt)), (((refl, refl), (refl, tt)), tt)), (refl, ((refl, (refl, (refl, tt))), ((refl, (refl, (refl, tt))), tt)), (refl, tt, (refl, tt, (refl, (refl, (((refl, refl), (refl, tt)), ((refl, (refl, tt)), tt)), (refl, (((refl, refl), (refl, tt)), ((full .1, (refl, tt)), tt)), refl))))))));
-  },
-  record {
-    long = refl;
-    magic = refl;
-    model = refl;
-    sections = (refl, (((refl, refl), (refl, (refl, tt))), ((full .0, (refl, (refl, tt))), tt)), (refl, ((refl, (refl, tt)), (((refl, refl), (refl, tt)), tt)), (refl, ((refl, (refl, (refl, tt))), ((refl, (refl, (refl, tt))), tt)), (refl, tt, (refl, tt, (refl, (refl, (((refl, refl), (refl, tt)), ((refl, (refl, tt)), tt)), (refl, (((refl, refl), (refl, tt)), ((full .1, (refl, tt)), tt)), refl))))))));
-  },
+  record { long = refl; magic = refl; model = refl; sections = sections-told .0 },
+  record { long = refl; magic = refl; model = refl; sections = sections-told .1 },
+  record { long = refl; magic = refl; model = refl; sections = sections-told .1 },
 )
 
 pub each-told : DifferEach names-and-interpolation (posed 1 5 ∷ posed 1 5 ∷ []) (posed 1 5 ∷ posed 2 6 ∷ [])

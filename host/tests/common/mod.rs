@@ -13,6 +13,23 @@ pub fn start() -> Vec<u8> {
     file
 }
 
+/// The same of the older edition: 40 bytes.
+pub fn older_start() -> Vec<u8> {
+    let mut file = b"Vocaloid Motion Data file".to_vec();
+    file.resize(40, 0);
+    file
+}
+
+/// A file of the newer edition with the header of the older one, which has room for 10 bytes of its model name.
+pub fn as_older(newer: &[u8]) -> Vec<u8> {
+    [&older_start()[..30], &newer[30..40], &newer[50..]].concat()
+}
+
+/// A file of the older edition with the header of the newer one: what it must read as.
+pub fn widened(older: &[u8]) -> Vec<u8> {
+    [&start()[..30], &older[30..40], &[0; 10], &older[40..]].concat()
+}
+
 /// The start, and these counts.
 pub fn counts(counts: &[u32]) -> Vec<u8> {
     let mut file = start();

@@ -15,13 +15,13 @@ write-take-requires c κs =
     let b = k .before in
     let s = b .before .before in
     let h : Sums (scan-is (b .a .given .0 .0)) no-scan = omega (arith, k .known-told2 .given) in
-    export-both _ _ _ _ (heard scan-answer (s .scan-file .ensures) (b .a .given .1)) (c .no-sections .ensures) h
+    export-both _ _ _ _ _ (heard scan-answer (s .scan-fitting .ensures) (b .a .given .1)) (c .no-sections .ensures) h
 
 returns : tie.Need-returns
 returns c =
     let a = c .before in
     let s = a .before .before in
-    saves-nothing _ _ _ (export-refused _ _ _ (heard scan-answer (s .scan-file .ensures) (a .k .given .1)))
+    saves-nothing _ _ _ (export-refused _ _ _ _ (heard scan-answer (s .scan-fitting .ensures) (a .k .given .1)))
 
 returns-2 : tie.Need-returns-2
 returns-2 c =
@@ -30,7 +30,7 @@ returns-2 c =
     let m = n .before in
     let b = m .before .before .before in
     let s = b .before .before in
-    same-saved _ (export-given _ _ _ _ (heard scan-answer (s .scan-file .ensures) (b .a .given .1)) (n .no-sections .ensures) _ (m .model-name .ensures)) (w .write-take .ensures)
+    same-saved _ (export-given _ _ _ _ _ (heard scan-answer (s .scan-fitting .ensures) (b .a .given .1)) (n .no-sections .ensures) _ (m .model-name .ensures)) (w .write-take .ensures)
 
 pub export-spec : {M : Type 1} → statement M
 export-spec =

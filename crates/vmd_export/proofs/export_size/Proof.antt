@@ -18,13 +18,13 @@ size-of-both-requires c κs =
     let b = k .before in
     let s = b .before .before in
     let h : Sums (scan-is (b .a .given .0 .0)) no-scan = omega (arith, k .known-told2 .given) in
-    export-both _ _ _ _ (heard scan-answer (s .scan-file .ensures) (b .a .given .1)) (c .no-sections .ensures) h .sums
+    export-both _ _ _ _ _ (heard scan-answer (s .scan-fitting .ensures) (b .a .given .1)) (c .no-sections .ensures) h .sums
 
 returns : tie.Need-returns
 returns c =
     let a = c .before in
     let s = a .before .before in
-    refused-answer _ _ _ (export-refused _ _ _ (heard scan-answer (s .scan-file .ensures) (a .k .given .1)))
+    refused-answer _ _ _ (export-refused _ _ _ _ (heard scan-answer (s .scan-fitting .ensures) (a .k .given .1)))
 
 returns-2 : tie.Need-returns-2
 unfolding no-scan
@@ -35,8 +35,8 @@ returns-2 c =
     let s = b .before .before in
     let h : Sums (scan-is (b .a .given .0 .0)) no-scan = omega (arith, k .known-told2 .given) in
     c .size-of-both .ensures
-    ∙ both-size (export-both _ _ _ _ (heard scan-answer (s .scan-file .ensures) (b .a .given .1)) (n .no-sections .ensures) h) _ _
-    ∙ ap (λ w. map-answer length (fitted 18446744073709551615 w)) (export-given _ _ _ _ (heard scan-answer (s .scan-file .ensures) (b .a .given .1)) (n .no-sections .ensures) _ refl)
+    ∙ both-size (export-both _ _ _ _ _ (heard scan-answer (s .scan-fitting .ensures) (b .a .given .1)) (n .no-sections .ensures) h) _ _ _
+    ∙ ap (λ w. map-answer length (fitted 18446744073709551615 w)) (export-given _ _ _ _ _ (heard scan-answer (s .scan-fitting .ensures) (b .a .given .1)) (n .no-sections .ensures) _ refl)
 
 pub export-size-spec : {M : Type 1} → statement M
 export-size-spec =

@@ -27,7 +27,7 @@ returns-2 c =
     let b = c .before .before in
     let s = b .before .before in
     c .size-of-both .ensures
-    ∙ both-size (both-scanned _ _ _ _ _ (heard both-answer (s .scan-both .ensures) (b .a .given .1)) (omega arith) (omega arith)) _ _
+    ∙ both-size (both-scanned _ _ _ _ _ (heard both-answer (s .scan-both .ensures) (b .a .given .1)) (omega arith) (omega arith)) _ _ _
     ∙ ap (λ w. map-answer length (fitted 18446744073709551615 w)) (join-given _ _ _ _ _ _ (heard both-answer (s .scan-both .ensures) (b .a .given .1)) refl)
 
 pub join-size-spec : {M : Type 1} → statement M

@@ -13,7 +13,7 @@ write-header-requires c κs =
     let e = c .before in
     let s = e .before .before in
     let p = s .before .before .before .before .before in
-    rest-room _ (take-rest (p .pre) _ _ (sym (heard written-answer (s .size-of-both .ensures) (e .enum-told .given .1))))
+    rest-room _ (take-rest (p .pre) _ _ _ (sym (heard written-answer (s .size-of-both .ensures) (e .enum-told .given .1))))
 
 write-sections-requires : tie.Need-write-sections-requires
 write-sections-requires c κs =
@@ -21,14 +21,14 @@ write-sections-requires c κs =
     let e = w .before .before in
     let s = e .before .before in
     let p = s .before .before .before .before .before in
-    (p .pre, rest-then _ (take-rest (p .pre) _ _ (sym (heard written-answer (s .size-of-both .ensures) (e .enum-told .given .1)))) (w .write-header .ensures) .room)
+    (p .pre, rest-then _ (take-rest (p .pre) _ _ _ (sym (heard written-answer (s .size-of-both .ensures) (e .enum-told .given .1)))) (w .write-header .ensures) .room)
 
 returns : tie.Need-returns
 returns c =
     let a = c .before in
     let s = a .before .before in
     let p = s .before .before .before .before .before in
-    take-over (p .pre) _ _ (sym (heard written-answer (s .size-of-both .ensures) (a .k .given .1)))
+    take-over (p .pre) _ _ _ (sym (heard written-answer (s .size-of-both .ensures) (a .k .given .1)))
 
 returns-2 : tie.Need-returns-2
 returns-2 c =
@@ -37,7 +37,7 @@ returns-2 c =
     let e = h .before .before in
     let s = e .before .before in
     let p = s .before .before .before .before .before in
-    take-wrote (p .pre) _ _ (sym (heard written-answer (s .size-of-both .ensures) (e .enum-told .given .1))) (rest-done (rest-then _ (take-rest (p .pre) _ _ (sym (heard written-answer (s .size-of-both .ensures) (e .enum-told .given .1)))) (h .write-header .ensures)) (w .write-sections .ensures))
+    take-wrote (p .pre) _ _ _ (sym (heard written-answer (s .size-of-both .ensures) (e .enum-told .given .1))) (rest-done (rest-then _ (take-rest (p .pre) _ _ _ (sym (heard written-answer (s .size-of-both .ensures) (e .enum-told .given .1)))) (h .write-header .ensures)) (w .write-sections .ensures))
 
 pub write-take-spec : {M : Type 1} → statement M
 write-take-spec =

@@ -12,11 +12,11 @@ returns c = within-over _ _ (omega arith)
 
 returns-2 : tie.Need-returns-2
 unfolding file-length
-returns-2 c = c .size-within .ensures
+returns-2 c = rw (← c .before .before .model-width .ensures .0) (c .size-within .ensures)
 
 pub file-size-spec : {M : Type 1} → statement M
 file-size-spec =
     tie.close (tie.spec
+    (λ c κs. search needs) (λ c. search needs) (λ c. search needs) (λ c. search needs) (λ c. search needs) (λ c. search needs)
     (λ c. search needs) (λ c. search needs) (λ c. search needs) (λ c. search needs) (λ c. search needs) (λ c. search needs)
-    (λ c. search needs) (λ c. search needs) (λ c. search needs) (λ c. search needs) (λ c. search needs) (λ c. search needs)
-    returns (λ c. search needs) (λ c κs. search needs) returns-2)
+    (λ c. search needs) (λ c. search needs) returns (λ c. search needs) (λ c κs. search needs) returns-2)

@@ -1,4 +1,5 @@
-//! One file through every call of the reader and the exporter, split into parts, and added to a season.
+//! One file of either edition through every call of the reader and the exporter, converted, split into parts, and added to a
+//! season.
 
 use crate::check::{check_size, check_written, same, Checked};
 use crate::lent::{Input, Output, Scratch};
@@ -10,7 +11,8 @@ use mmd_anim_format::vmd::{
     VmdParsedPropertyFrame, VmdParsedSelfShadowFrame,
 };
 use oracle::files::{IK_STATE_SIZE, SIZES};
-use oracle::original;
+use oracle::older::{self, is_older};
+use oracle::original::{self, MAGIC_DIFFERS, MODEL_NAME_TOO_LONG};
 
 const OUTSIDE: u32 = 4;
 const SCRATCH_TOO_SHORT: u32 = 3;
@@ -22,9 +24,19 @@ pub struct FileCheck {
     output: Output,
     scratch: Scratch,
     pub records: u64,
+    pub editions: EditionTally,
     pub lights: LightNans,
     pub split: SplitCheck,
     pub season: SeasonCheck,
+}
+
+/// Files that begin with the older magic, and how many of them are accepted; what the converter wrote and refused with 15.
+#[derive(Default)]
+pub struct EditionTally {
+    pub older: u64,
+    pub older_accepted: u64,
+    pub converted: u64,
+    pub too_long: u64,
 }
 
 /// The call with f32 fields keeps a NaN a NaN, and need not keep its bits.
@@ -58,9 +70,26 @@ impl FileCheck {
         }
         check_size("export size", &exported, |size| library::export_size(file, size))?;
         check_written("export", &exported, &mut self.output, |out, written| library::export_animation(file, out, written))?;
+        self.check_converted(file, &exported)?;
         self.split.check(file, &take, &exported)?;
         self.season.check(file, take.as_ref().ok())?;
+        if is_older(file) {
+            same("the original's own answer to an older file", original::read_unwidened(file).err(), Some(MAGIC_DIFFERS))?;
+            self.editions.older += 1;
+            self.editions.older_accepted += take.is_ok() as u64;
+        }
         Ok(take.err().unwrap_or(0))
+    }
+
+    fn check_converted(&mut self, file: &[u8], exported: &Result<Vec<u8>, u32>) -> Checked {
+        let converted = exported.as_ref().map_err(|&refusal| refusal).and_then(|bytes| older::converted(bytes));
+        check_size("older size", &converted, |size| library::export_older_size(file, size))?;
+        check_written("older export", &converted, &mut self.output, |out, written| {
+            library::export_older_animation(file, out, written)
+        })?;
+        self.editions.converted += converted.is_ok() as u64;
+        self.editions.too_long += (converted == Err(MODEL_NAME_TOO_LONG)) as u64;
+        Ok(())
     }
 
     fn check_refused(&mut self, file: &[u8], refusal: u32) -> Checked {
@@ -119,8 +148,17 @@ impl FileCheck {
     }
 }
 
-/// The original's reader keeps no places: these follow document 01 over the counts that it found.
+/// The original's reader keeps no places: these follow document 01 over the counts that it found. In an older file they are
+/// those of the widened one, 10 less.
 fn opening_of(file: &[u8], take: &VmdParsedAnimation) -> (Opening, Vec<u64>) {
+    let widened = older::widened(file).expect("the header of an accepted file");
+    let (mut opening, mut positions) = opening_of_newer(&widened, take);
+    let less = (widened.len() - file.len()) as u64;
+    opening.places.iter_mut().chain(&mut positions).for_each(|place| *place -= less);
+    (opening, positions)
+}
+
+fn opening_of_newer(file: &[u8], take: &VmdParsedAnimation) -> (Opening, Vec<u64>) {
     let found = &take.metadata.counts;
     let counts = [found.bones, found.morphs, found.cameras, found.lights, found.self_shadows, found.properties];
     let (mut at, mut places) = (50, [file.len() as u64; 6]);
@@ -157,17 +195,24 @@ pub fn bytes_at<'a>(what: &str, file: &'a [u8], part: [u64; 2]) -> Result<&'a [u
 
 /// The file's model name, empty where its header is refused.
 pub fn model_of(file: &[u8]) -> Vec<u8> {
-    let field = read_header(file).map_or([0; 20], |(header, _)| header.model_name_bytes);
+    let header = older::widened(file).ok().and_then(|file| read_header(&file).ok().map(|(header, _)| header));
+    let field = header.map_or([0; 20], |header| header.model_name_bytes);
     field.split(|&byte| byte == 0).next().unwrap().to_vec()
 }
 
-fn check_model_name(file: &[u8]) -> Checked {
-    let part = library::model_name(file);
-    same("model name", bytes_at("model name", file, part)?, &model_of(file))?;
-    if read_header(file).is_err() {
-        same("model name of a refused header", part, [0, 0])?;
+/// Where a model name is in its file.
+pub fn model_part(name: &[u8]) -> [u64; 2] {
+    if name.is_empty() {
+        [0, 0]
+    } else {
+        [30, name.len() as u64]
     }
-    Ok(())
+}
+
+fn check_model_name(file: &[u8]) -> Checked {
+    let (part, name) = (library::model_name(file), model_of(file));
+    same("model name", bytes_at("model name", file, part)?, &name)?;
+    same("model name: part", part, model_part(&name))
 }
 
 fn bits<const N: usize>(values: [f32; N]) -> [u32; N] {

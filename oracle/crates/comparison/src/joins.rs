@@ -2,7 +2,7 @@
 //! by document 01's rule.
 
 use crate::check::{check_size, check_written, same, Checked};
-use crate::files::{bytes_at, model_of};
+use crate::files::{bytes_at, model_of, model_part};
 use crate::lent::Output;
 use crate::library;
 use oracle::original;
@@ -18,13 +18,11 @@ pub fn check(first: &[u8], second: &[u8], output: &mut Output) -> Result<u32, St
 fn check_model(first: &[u8], second: &[u8]) -> Checked {
     let [which, begin, len] = library::joined_model(first, second);
     let (first_name, second_name) = (model_of(first), model_of(second));
-    if !first_name.is_empty() {
-        same("joined model name: file", which, 0)?;
-        same("joined model name", bytes_at("joined model name", first, [begin, len])?, &first_name)
-    } else if !second_name.is_empty() {
-        same("joined model name: file", which, 1)?;
-        same("joined model name", bytes_at("joined model name", second, [begin, len])?, &second_name)
-    } else {
-        same("joined model name of two without", [which, begin, len], [0, 0, 0])
-    }
+    let (file, number, name) = match (first_name.is_empty(), second_name.is_empty()) {
+        (true, false) => (second, 1, second_name),
+        _ => (first, 0, first_name),
+    };
+    same("joined model name: file", which, number)?;
+    same("joined model name", bytes_at("joined model name", file, [begin, len])?, &name)?;
+    same("joined model name: part", [begin, len], model_part(&name))
 }

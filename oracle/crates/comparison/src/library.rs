@@ -3,9 +3,12 @@
 use crate::alter::{altered, Alter};
 use crate::header;
 use crate::header::indices::{VMD_TOTAL_IK_STATES, VMD_TOTAL_LARGEST_FRAME, VMD_TOTAL_SMALLEST_FRAME};
+use oracle::files::{Pieces, MAGIC};
 use oracle::names::is_lead;
+use oracle::older::{is_older, NARROWER, OLDER_MAGIC};
 use oracle::original;
 use oracle::parts::{Columns, Parts};
+use std::borrow::Cow;
 
 /// A slice's pointer, null where it has no elements, which include/vmd.h allows.
 fn pointer<T>(slice: &[T]) -> *const T {
@@ -33,12 +36,43 @@ pub struct Opening {
     pub totals: [u64; 3],
 }
 
+/// An older file as a reader would see it that takes it for a newer one.
+fn seen(file: &[u8]) -> Cow<'_, [u8]> {
+    let mut file = Cow::Borrowed(file);
+    if altered(Alter::OlderSectionsFrom50) && is_older(&file) {
+        file.to_mut()[..MAGIC.len()].copy_from_slice(MAGIC);
+    }
+    file
+}
+
 pub fn parse_animation(file: &[u8], scratch: &mut [u64], opening: &mut Opening) -> u32 {
-    let (counts, places, totals) = (&mut opening.counts, &mut opening.places, &mut opening.totals);
+    if older_magic_refused(file) {
+        return original::MAGIC_DIFFERS;
+    }
+    let (read, counts, places, totals) = (seen(file), &mut opening.counts, &mut opening.places, &mut opening.totals);
     let answer = unsafe {
-        header::vmd_parse_animation(pointer(file), file.len(), pointer_mut(scratch), scratch.len(), counts, places, totals)
+        header::vmd_parse_animation(pointer(&read), read.len(), pointer_mut(scratch), scratch.len(), counts, places, totals)
     };
+    alter_older_opening(file, answer, scratch, opening);
     alter_opening(answer, scratch, opening)
+}
+
+fn older_magic_refused(file: &[u8]) -> bool {
+    is_older(file)
+        && (altered(Alter::OlderRefused)
+            || altered(Alter::OlderCutIsOther) && file.len() < 40
+            || altered(Alter::OlderWholeMagic) && file[26..30] != [0; 4])
+}
+
+fn alter_older_opening(file: &[u8], answer: u32, scratch: &mut [u64], opening: &mut Opening) {
+    if answer != 0 || !is_older(file) {
+        return;
+    }
+    if altered(Alter::OlderPlaces) {
+        opening.places.iter_mut().for_each(|place| *place += NARROWER as u64);
+    } else if altered(Alter::OlderScratch) {
+        scratch.iter_mut().take(opening.counts[5] as usize).for_each(|position| *position += NARROWER as u64);
+    }
 }
 
 fn alter_opening(answer: u32, scratch: &mut [u64], opening: &mut Opening) -> u32 {
@@ -235,15 +269,23 @@ pub fn ik_name(file: &[u8], opening: &Opening, scratch: &[u64], i: usize, j: usi
 pub fn model_name(file: &[u8]) -> [u64; 2] {
     let mut part = [u64::MAX; 2];
     unsafe { header::vmd_model_name(pointer(file), file.len(), &mut part) };
+    if altered(Alter::OlderNameOf20) && is_older(file) && part[1] == 10 {
+        part[1] += file[40..].iter().take(10).take_while(|&&byte| byte != 0).count() as u64;
+    } else if altered(Alter::OlderNameMissing) && is_older(file) {
+        part = [0, 0];
+    }
     part
 }
 
-// ---- export and joining
+// ---- export
 
 pub fn export_size(file: &[u8], size: &mut u64) -> u32 {
     let answer = unsafe { header::vmd_export_size(pointer(file), file.len(), size) };
     if altered(Alter::ExportSize) && answer == 0 {
         *size += 1;
+    }
+    if altered(Alter::OlderExportSize) && answer == 0 && is_older(file) {
+        *size -= NARROWER as u64;
     }
     answer
 }
@@ -251,6 +293,11 @@ pub fn export_size(file: &[u8], size: &mut u64) -> u32 {
 pub fn export_animation(file: &[u8], out: &mut [u8], written: &mut u64) -> u32 {
     let answer = unsafe { header::vmd_export_animation(pointer(file), file.len(), pointer_mut(out), out.len(), written) };
     alter_export(answer, out, written);
+    if altered(Alter::OlderExportMagic) && answer == 0 && is_older(file) {
+        out[..OLDER_MAGIC.len()].copy_from_slice(OLDER_MAGIC);
+    } else if altered(Alter::OlderExportName) && answer == 0 && is_older(file) {
+        out[40..44].copy_from_slice(&file[40..44]);
+    }
     answer
 }
 
@@ -272,12 +319,85 @@ fn alter_export(answer: u32, out: &mut [u8], written: &mut u64) {
     }
 }
 
+// ---- conversion to the older edition
+
+pub fn export_older_size(file: &[u8], size: &mut u64) -> u32 {
+    let answer = unsafe { header::vmd_export_older_size(pointer(file), file.len(), size) };
+    if altered(Alter::ConvertSize) && answer == 0 {
+        *size += NARROWER as u64;
+    }
+    if altered(Alter::ConvertSizeOfLongName) && answer == original::MODEL_NAME_TOO_LONG {
+        return 0;
+    }
+    answer
+}
+
+pub fn export_older_animation(file: &[u8], out: &mut [u8], written: &mut u64) -> u32 {
+    if let Some(refusal) = conversion_refused(file, out.len()) {
+        return refusal;
+    }
+    let answer = unsafe { header::vmd_export_older_animation(pointer(file), file.len(), pointer_mut(out), out.len(), written) };
+    if altered(Alter::ConvertElevenAccepted) && answer == original::MODEL_NAME_TOO_LONG && model_name(file)[1] == 11 {
+        return 0;
+    }
+    alter_conversion(file, answer, out, written);
+    answer
+}
+
+/// A refusal that the library does not give, or not first; nothing is written.
+fn conversion_refused(file: &[u8], out_len: usize) -> Option<u32> {
+    let accepted = || original::read(file).is_ok();
+    let name_len = || model_name(file)[1];
+    let size = || original::export_file(file).map(|bytes| bytes.len() - NARROWER);
+    let too_long = altered(Alter::ConvertTenRefused) && name_len() == 10 && accepted()
+        || altered(Alter::ConvertOlderRefused) && is_older(file) && accepted()
+        || altered(Alter::ConvertLongNameFirst) && name_len() > 10;
+    let too_short = altered(Alter::ConvertShortFirst) && size().is_ok_and(|size| out_len < size)
+        || altered(Alter::ConvertExactRefused) && name_len() <= 10 && size() == Ok(out_len);
+    if too_long {
+        Some(original::MODEL_NAME_TOO_LONG)
+    } else if too_short {
+        Some(original::OUTPUT_TOO_SHORT)
+    } else {
+        None
+    }
+}
+
+fn alter_conversion(file: &[u8], answer: u32, out: &mut [u8], written: &mut u64) {
+    let end = *written as usize;
+    if altered(Alter::ConvertInRefusal) && answer != 0 {
+        out.iter_mut().take(1).for_each(|byte| *byte ^= 1);
+    } else if answer != 0 {
+    } else if altered(Alter::ConvertByte) {
+        out[end - 1] ^= 1;
+    } else if altered(Alter::ConvertPastItsEnd) && end < out.len() {
+        out[end] ^= 1;
+    } else if altered(Alter::ConvertNewerMagic) {
+        out[..MAGIC.len()].copy_from_slice(MAGIC);
+    } else if altered(Alter::ConvertMagicKept) {
+        out[26..30].copy_from_slice(&file[26..30]);
+    } else if altered(Alter::ConvertNameKept) {
+        out[30..40].copy_from_slice(&file[30..40]);
+    } else if altered(Alter::ConvertNameOf20) && end + NARROWER <= out.len() {
+        out.copy_within(40..end, 50);
+        out[40..50].fill(0);
+        *written += NARROWER as u64;
+    }
+}
+
+// ---- joining
+
 pub fn join_size(first: &[u8], second: &[u8], size: &mut u64) -> u32 {
     unsafe { header::vmd_join_size(pointer(first), first.len(), pointer(second), second.len(), size) }
 }
 
 pub fn join_animations(first: &[u8], second: &[u8], out: &mut [u8], written: &mut u64) -> u32 {
-    let (a, b) = if altered(Alter::JoinTurned) { (second, first) } else { (first, second) };
+    let empty;
+    let (a, mut b) = if altered(Alter::JoinTurned) { (second, first) } else { (first, second) };
+    if altered(Alter::JoinOlderDropped) && is_older(b) && original::read(b).is_ok() {
+        empty = Pieces::empty().file();
+        b = &empty;
+    }
     unsafe { header::vmd_join_animations(pointer(a), a.len(), pointer(b), b.len(), pointer_mut(out), out.len(), written) }
 }
 
@@ -287,6 +407,8 @@ pub fn joined_model(first: &[u8], second: &[u8]) -> [u64; 3] {
     unsafe { header::vmd_joined_model(pointer(first), first.len(), pointer(second), second.len(), &mut part) };
     if altered(Alter::JoinModelName) {
         part[0] ^= 1;
+    } else if altered(Alter::JoinOlderModelName) && part[2] > 0 && is_older([first, second][part[0] as usize]) {
+        part[1] += 1;
     }
     part
 }
@@ -398,6 +520,9 @@ pub fn split_sizes(file: &[u8], sizes: &mut [u64; 4]) -> u32 {
     if altered(Alter::SplitSizes) && answer == 0 {
         sizes[3] += 1;
     }
+    if altered(Alter::SplitOlderSizes) && answer == 0 && is_older(file) {
+        sizes[0] += 1;
+    }
     answer
 }
 
@@ -482,6 +607,10 @@ pub fn season_none(season: &mut Season) {
 
 pub fn season_add(file: &[u8], season: &mut Season) {
     let before = season.clone();
+    if altered(Alter::SeasonOlderRefused) && is_older(file) {
+        season.figures[10] = before.figures[10].saturating_add(1);
+        return;
+    }
     unsafe { header::vmd_season_add(pointer(file), file.len(), &mut season.counts, &mut season.figures) };
     alter_season(file, &before, season);
 }

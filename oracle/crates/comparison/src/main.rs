@@ -1,6 +1,7 @@
 //! The proved library and the original Rust on the same inputs, every result compared.
 //!
-//!     compare N SEED          N files, N part sets, N / 10 files whose names repeat, joins and names, beside the fixed inputs
+//!     compare N SEED          N files, N part sets, N / 5 older files, N / 10 files whose names repeat, joins, joins with
+//!                             older files and names, beside the fixed inputs
 //!     compare self-test       alters one result after another: each has to be reported
 
 mod alter;
@@ -51,19 +52,24 @@ fn compare(cases: u64, seed: u64) -> ExitCode {
     print_names("random", &random_names);
     let (files, file_check) = timed("files", || runs::files(cases, seed));
     files.print();
-    print_lights(&file_check);
-    print_splits(&file_check.split);
-    print_seasons(&file_check.season);
+    print_files(&file_check);
+    let (older, older_check) = timed("older files", || runs::older_files(cases / 5, seed));
+    older.print();
+    print_older(&older_check.editions);
+    print_files(&older_check);
     let joins = timed("joins", || runs::joins(cases / 10, seed));
     joins.print();
+    let older_joins = timed("joins with older files", || runs::older_joins(cases / 10, seed));
+    older_joins.print();
     let (parts, parts_check) = timed("parts", || runs::parts(cases, seed));
     parts.print();
     print_outside(&parts_check.outside);
     let huge = timed("counts at 32 bits", huge::run);
     huge.print();
-    let tallies = [&names, &files, &joins, &parts, &huge];
+    let tallies = [&names, &files, &older, &joins, &older_joins, &parts, &huge];
+    let cases: u64 = tallies.iter().map(|tally| tally.cases()).sum();
     let differences: usize = tallies.iter().map(|tally| tally.differences.len()).sum();
-    println!("{} cases, {differences} differences", tallies.iter().map(|tally| tally.cases()).sum::<u64>());
+    println!("{cases} cases, {} of them older files, {differences} differences", older_check.editions.older);
     if differences == 0 {
         ExitCode::SUCCESS
     } else {
@@ -79,6 +85,20 @@ fn print_names(label: &str, tally: &name_test::NameTally) {
     );
     println!("    a byte order mark: the original answers otherwise for {}, alike for {}", tally.marks_other, tally.marks_alike);
     println!("    the place as the decoder has it: {}, of these {} before the end", tally.places, tally.faults);
+}
+
+fn print_files(check: &files::FileCheck) {
+    print_lights(check);
+    println!("  converted to the older edition: {}, refused with 15: {}", check.editions.converted, check.editions.too_long);
+    print_splits(&check.split);
+    print_seasons(&check.season);
+}
+
+fn print_older(editions: &files::EditionTally) {
+    println!(
+        "  {} begin with the older magic: the original by itself refuses each with 2, {} are accepted",
+        editions.older, editions.older_accepted
+    );
 }
 
 fn print_lights(check: &files::FileCheck) {
@@ -118,11 +138,13 @@ fn print_outside(tally: &parts::OutsideTally) {
 
 const SELF_TEST_CASES: u64 = 3000;
 
-fn tallies() -> [Tally; 4] {
+fn tallies() -> [Tally; 6] {
     [
         runs::names(SELF_TEST_CASES, 1).0,
         runs::files(SELF_TEST_CASES, 1).0,
+        runs::older_files(SELF_TEST_CASES, 1).0,
         runs::joins(SELF_TEST_CASES, 1),
+        runs::older_joins(SELF_TEST_CASES, 1),
         runs::parts(SELF_TEST_CASES, 1).0,
     ]
 }

@@ -7,8 +7,9 @@ use crate::name_test::NameTally;
 use crate::parts::PartsCheck;
 use crate::tally::Tally;
 use oracle::files::{self, file_kind, file_of, FileKind, FILE_KINDS};
-use oracle::named;
+use oracle::named::{self, FEW_NAMES};
 use oracle::names;
+use oracle::older::{self, narrowed};
 use oracle::part_sets::{self, set_kind, set_of, SetKind, FAULTS, SET_KINDS};
 use oracle::parts::Parts;
 use oracle::random::Random;
@@ -20,6 +21,8 @@ const PARTS: u64 = 3 << 60;
 const NAMES: u64 = 4 << 60;
 const FIXED: u64 = 5 << 60;
 const NAMED: u64 = 6 << 60;
+const OLDER: u64 = 7 << 60;
+const OLDER_JOINS: u64 = 8 << 60;
 
 fn hex(bytes: &[u8]) -> String {
     bytes.iter().map(|byte| format!("{byte:02x}")).collect()
@@ -32,7 +35,6 @@ const EVERY_PREFIX: &str = "every prefix of a take of six sections";
 const EVERY_CHANGE: &str = "every change of one byte of a take";
 const LARGE_COUNTS: &str = "counts that do not fit";
 const MANY_NAMES: &str = "thousands of names";
-const FEW_NAMES: &str = "names that repeat";
 
 /// A file in a report; a long one by its length alone.
 fn shown_file(file: &[u8]) -> String {
@@ -76,6 +78,47 @@ fn fixed_files(seed: u64) -> impl Iterator<Item = (&'static str, Vec<u8>)> {
         .chain(labelled(MANY_NAMES, named::many_names(&mut random)))
 }
 
+// ---- older files
+
+const BARE_LENGTHS: &str = "the older magic and zeros, of every length";
+const EVERY_OLDER_PREFIX: &str = "every prefix of an older take";
+const EVERY_HEADER_CHANGE: &str = "every change of one byte of the header";
+const MIXED_MAGICS: &str = "mixtures of both magics";
+
+/// Bytes of an older header and the bone count after it.
+const OLDER_HEAD: usize = 44;
+
+pub fn older_files(cases: u64, seed: u64) -> (Tally, FileCheck) {
+    let fixed = [BARE_LENGTHS, DOCUMENT_01, EVERY_OLDER_PREFIX, EVERY_HEADER_CHANGE, MIXED_MAGICS, LARGE_COUNTS];
+    let drawn = [older::HEADER_CUT, older::HEADER_OTHER, FEW_NAMES];
+    let labels: Vec<&str> = fixed.into_iter().chain(FILE_KINDS.map(FileKind::label)).chain(drawn).collect();
+    let title = "Older files, widened for the original: opening, records, names, export, parts, season figures";
+    let (mut tally, mut check) = (Tally::new(title, &labels), FileCheck::default());
+    for (label, file) in fixed_older_files(seed) {
+        tally.count(label, check.check(&file), || shown_file(&file));
+    }
+    for case in 0..cases {
+        let (label, file) = older::older_file(&mut Random::for_case(seed, OLDER + case));
+        tally.count(label, check.check(&file), || format!("random older file {case}: {}", shown_file(&file)));
+    }
+    (tally, check)
+}
+
+fn fixed_older_files(seed: u64) -> impl Iterator<Item = (&'static str, Vec<u8>)> {
+    let mut random = Random::for_case(seed, FIXED + 2);
+    let whole = narrowed(&files::full_pieces(2, &mut random).file());
+    let small = narrowed(&files::full_pieces(1, &mut random).file());
+    let narrow = |files: Vec<Vec<u8>>| files.iter().map(|file| narrowed(file)).collect::<Vec<_>>();
+    let changes = files::single_byte_changes(&small[..OLDER_HEAD]).map(|head| [&head, &small[OLDER_HEAD..]].concat());
+    let labelled = |label: &'static str, files: Vec<Vec<u8>>| files.into_iter().map(move |file| (label, file));
+    labelled(BARE_LENGTHS, older::bare_lengths())
+        .chain(labelled(DOCUMENT_01, narrow(files::takes_of_document_01())))
+        .chain(labelled(EVERY_OLDER_PREFIX, files::prefixes(&whole).collect()))
+        .chain(labelled(EVERY_HEADER_CHANGE, changes.collect()))
+        .chain(labelled(MIXED_MAGICS, older::mixed_magics(&small)))
+        .chain(labelled(LARGE_COUNTS, narrow(files::large_counts())))
+}
+
 // ---- joins
 
 const EACH_WITH_EACH: &str = "document 01's takes, each with each";
@@ -98,6 +141,37 @@ pub fn joins(cases: u64, seed: u64) -> Tally {
         tally.count(label, joins::check(&first, &second, &mut output), || {
             format!("random join {case}: {} and {}", hex(&first), hex(&second))
         });
+    }
+    tally
+}
+
+/// Which of the two is older.
+const MIXTURES: [(&str, [bool; 2]); 3] = [
+    ("an older file and a newer one", [true, false]),
+    ("a newer file and an older one", [false, true]),
+    ("two older files", [true, true]),
+];
+
+pub fn older_joins(cases: u64, seed: u64) -> Tally {
+    let title = "Joins with older files, widened for the original";
+    let (mut tally, mut output) = (Tally::new(title, &MIXTURES.map(|(label, _)| label)), Output::default());
+    let mut count = |(label, older): (&str, [bool; 2]), first: &[u8], second: &[u8], case: &str| {
+        let edition = |older: bool, file: &[u8]| if older { narrowed(file) } else { file.to_vec() };
+        let (first, second) = (edition(older[0], first), edition(older[1], second));
+        let checked = joins::check(&first, &second, &mut output);
+        tally.count(label, checked, || format!("{case}{} and {}", hex(&first), hex(&second)));
+    };
+    let mut fixed = files::takes_of_document_01();
+    fixed.push(files::Pieces::empty().header[..35].to_vec()); // a header that is cut, in both editions
+    for mixture in MIXTURES {
+        for (first, second) in fixed.iter().flat_map(|first| fixed.iter().map(move |second| (first, second))) {
+            count(mixture, first, second, "");
+        }
+    }
+    for case in 0..cases {
+        let mut random = Random::for_case(seed, OLDER_JOINS + case);
+        let (_, first, second) = pair(&mut random);
+        count(random.pick(&MIXTURES), &first, &second, &format!("random join {case} with an older file: "));
     }
     tally
 }

@@ -3,6 +3,7 @@
 pub mod files;
 pub mod named;
 pub mod names;
+pub mod older;
 pub mod original;
 pub mod part_sets;
 pub mod parts;

@@ -7,6 +7,8 @@ use crate::random::Random;
 /// Where the floats of a record begin, and how many there are.
 const FLOATS: [(usize, usize); 6] = [(19, 7), (19, 1), (4, 7), (4, 6), (5, 1), (0, 0)];
 
+pub const FEW_NAMES: &str = "names that repeat";
+
 /// A take whose bones, morphs and IK states have few names. In half of them everything is as the builder wants it.
 pub fn few_names(random: &mut Random) -> Vec<u8> {
     let buildable = random.one_in(2);

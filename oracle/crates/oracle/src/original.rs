@@ -1,6 +1,7 @@
 //! The original's answers, its errors as document 01's numbers.
 
 use crate::files::{Pieces, Section, IK_STATE_SIZE, SIZES};
+use crate::older;
 use crate::parts::{property_frames_in, push_name, Columns, Parts};
 use mmd_anim_format::error::ImportError;
 pub use mmd_anim_format::vmd::VmdParsedAnimation;
@@ -15,8 +16,15 @@ pub const MAGIC_DIFFERS: u32 = 2;
 pub const PARTS_NOT_WHOLE: u32 = 5;
 pub const OUTPUT_TOO_SHORT: u32 = 13;
 pub const PARTS_DO_NOT_FIT: u32 = 14;
+pub const MODEL_NAME_TOO_LONG: u32 = 15;
 
+/// The original's reading of a file, an older one widened first.
 pub fn read(file: &[u8]) -> Result<VmdParsedAnimation, u32> {
+    read_unwidened(&older::widened(file)?)
+}
+
+/// Its reading of the file as it is: it refuses older ones.
+pub fn read_unwidened(file: &[u8]) -> Result<VmdParsedAnimation, u32> {
     parse_vmd_animation(file).map_err(|error| match error {
         ImportError::UnexpectedEof(_) => ENDS_EARLY,
         ImportError::InvalidVmdMagic => MAGIC_DIFFERS,
@@ -42,6 +50,11 @@ pub fn export(take: &VmdParsedAnimation) -> Vec<u8> {
 
 pub fn export_file(file: &[u8]) -> Result<Vec<u8>, u32> {
     read(file).map(|take| export(&take))
+}
+
+/// Request e)'s older edition of a file, made of the original's export.
+pub fn convert_file(file: &[u8]) -> Result<Vec<u8>, u32> {
+    older::converted(&export_file(file)?)
 }
 
 /// Document 01's join of two takes that the original read, as the original writes it.

@@ -10,6 +10,7 @@ pub const OPEN: u32 = 1;
 pub const EXPORT: u32 = 2;
 pub const JOIN: u32 = 3;
 pub const BUILD: u32 = 4;
+pub const CONVERT: u32 = 5;
 
 /// What an output holds before a call.
 const FILLED: u8 = 0xa5;
@@ -49,6 +50,11 @@ impl Case {
     pub fn export(file: Vec<u8>, room: Room) -> Case {
         let exported = original::export_file(&file);
         Case::written(EXPORT, exported, room, vec![file])
+    }
+
+    pub fn convert(file: Vec<u8>, room: Room) -> Case {
+        let converted = original::convert_file(&file);
+        Case::written(CONVERT, converted, room, vec![file])
     }
 
     pub fn join(first: Vec<u8>, second: Vec<u8>, room: Room) -> Case {

@@ -1,7 +1,8 @@
 //! Which cases the replaying program gets: every outcome of every call, in small inputs.
 
-use crate::cases::{Case, Room, BUILD, EXPORT, JOIN, OPEN, ROOMS};
+use crate::cases::{Case, Room, BUILD, CONVERT, EXPORT, JOIN, OPEN, ROOMS};
 use oracle::files::{self, file_of, FileKind, FILE_KINDS};
+use oracle::older::{self, narrowed};
 use oracle::part_sets::{self, Fault, FAULTS, NOT_WHOLE};
 use oracle::parts::Parts;
 use oracle::random::Random;
@@ -22,6 +23,8 @@ pub fn write(path: &Path) {
     add_random_files(&mut cases);
     add_joins(&mut cases);
     add_builds(&mut cases);
+    add_older_files(&mut cases);
+    add_older_joins(&mut cases);
     let mut bytes = Vec::new();
     let mut outcomes: BTreeMap<(u32, u32), usize> = BTreeMap::new();
     for case in &cases {
@@ -42,6 +45,7 @@ fn label(kind: u32) -> &'static str {
         EXPORT => "export",
         JOIN => "join",
         BUILD => "build",
+        CONVERT => "convert",
         _ => unreachable!(),
     }
 }
@@ -107,6 +111,46 @@ fn add_builds(cases: &mut Vec<Case>) {
             let pair = [SEEN[i], SEEN[(i + step) % SEEN.len()]];
             cases.push(Case::build(&faulty(&pair, &mut random), Room::Exact));
         }
+    }
+}
+
+/// Files of the older edition; and newer ones, to be converted.
+fn add_older_files(cases: &mut Vec<Case>) {
+    let mut random = Random::for_case(SEED, 1 << 42);
+    cases.extend(older::bare_lengths().into_iter().map(Case::open));
+    for file in files::takes_of_document_01() {
+        let older = narrowed(&file);
+        cases.push(Case::open(older.clone()));
+        cases.extend(ROOMS.map(|room| Case::export(older.clone(), room)));
+        cases.extend(ROOMS.map(|room| Case::convert(older.clone(), room)));
+        cases.extend(ROOMS.map(|room| Case::convert(file.clone(), room)));
+    }
+    let whole = narrowed(&files::full_pieces(1, &mut random).file());
+    cases.extend(files::prefixes(&whole).map(Case::open));
+    cases.extend(older::mixed_magics(&whole).into_iter().map(Case::open));
+    let drawn = std::iter::repeat_with(|| older::older_file(&mut random).1).filter(|file| file.len() <= 420);
+    for (i, file) in drawn.take(240).enumerate() {
+        cases.push(match i % 3 {
+            0 => Case::open(file),
+            1 => Case::export(file, room(i / 3)),
+            _ => Case::convert(file, room(i / 3)),
+        });
+    }
+    for i in 0..80 {
+        cases.push(Case::convert(files::pieces(1, &mut random).file(), room(i)));
+    }
+}
+
+/// An older file first, second, and both times.
+fn add_older_joins(cases: &mut Vec<Case>) {
+    let mut random = Random::for_case(SEED, 1 << 43);
+    for i in 0..90 {
+        let (first, second) = (files::pieces(1, &mut random).file(), files::pieces(1, &mut random).file());
+        cases.push(match i % 3 {
+            0 => Case::join(narrowed(&first), second, room(i / 3)),
+            1 => Case::join(first, narrowed(&second), room(i / 3)),
+            _ => Case::join(narrowed(&first), narrowed(&second), room(i / 3)),
+        });
     }
 }
 

@@ -1,0 +1,11 @@
+-- `vmd_c::vmd_export_older_size` meets its contract. Assumes nothing.
+use borrow.Author.Needs.{needs}
+use Rattle.vmd_c.proofs.Laws.{handed}
+use Rattle.vmd_c.proofs.vmd_export_older_size.Statement.{statement}
+use Rattle.vmd_c.proofs.vmd_export_older_size.Tie as tie
+
+returns : tie.Need-returns
+returns c = handed _ _ (c .report-written .ensures) (c .before .before .export-older-vmd-size .ensures)
+
+pub vmd-export-older-size-spec : {M : Type 1} → statement M
+vmd-export-older-size-spec = tie.close (tie.spec (λ c κs. search needs) (λ c κs. search needs) returns)
