@@ -17,7 +17,7 @@ use Rattle.vmd_format.specs.Places.{walk, scan-file}
 use Rattle.vmd_format.specs.PlacesLaws.{section-in, frames-in}
 use Rattle.vmd_format.specs.ScanLaws.{file-in, ExtentWithin, Inside}
 use Rattle.vmd_format.specs.Lengths.{edition-length}
-use Rattle.vmd_format.specs.Join.{export-file, older-take, older-file, joined-model, join, fit-together, join-takes, join-files}
+use Rattle.vmd_format.specs.Join.{export-file, edition-take, older-file, joined-model, join, fit-together, join-takes, join-files}
 use Rattle.vmd_format.specs.ExportLaws.{take-in, Scanned, scan-scanned, take-by-places, join-by-places, scan-counts, join-length, join-fits}
 use Rattle.vmd_format.specs.EditionLaws.{take-model-short}
 use Rattle.vmd_format.specs.InsideLaws.{inside-reaches, inside-ends}
@@ -96,15 +96,12 @@ module _ (how : Manner) (s : List ℕ) where
   unfolding take-in take-of-both take-of file-in records-of frames-of section-in table frames-in no-scan
   alone-take x = simp append-nil
 
-  abbrev fitting : Edition → Take → Answer (List ℕ)
-  fitting e t = unless (leb (length (t .model)) (model-width e)) model-name-too-long (given (write-edition e t))
-
   -- a model name that is read is never too long for the newer edition
-  edition-fits : (e : Edition) → edition-file e how s ≡ and-then (read-take how s) (fitting e)
-  unfolding export-file older-file older-take and-then map-answer write-take unless
+  edition-fits : (e : Edition) → edition-file e how s ≡ and-then (read-take how s) (edition-take e)
+  unfolding export-file older-file edition-take and-then map-answer write-take unless
   edition-fits newer = go (read-take how s) refl
     where
-      go : (a : Answer Take) → read-take how s ≡ a → map-answer (write-edition newer) a ≡ and-then a (fitting newer)
+      go : (a : Answer Take) → read-take how s ≡ a → map-answer (write-edition newer) a ≡ and-then a (edition-take newer)
       go (declined k) e = refl
       go (given t) e = rw (le-leb (length (t .model)) 20 (take-model-short how s t e))
   edition-fits older = refl
@@ -114,7 +111,7 @@ module _ (how : Manner) (s : List ℕ) where
     room = leb (length (model-of s)) (model-width e)
 
     edition-by-places : edition-file e how s ≡ map-answer (λ x. write-edition e (take-in s x)) (scan-fitting e how s)
-    unfolding scan-fitting and-then map-answer unless take-in take-of file-in
+    unfolding scan-fitting edition-take and-then map-answer unless take-in take-of file-in
     edition-by-places = edition-fits e ∙ rw (take-by-places how s) (go (scan-file how s))
       where
         two : (x : Scan) (b : Bool)
@@ -123,7 +120,7 @@ module _ (how : Manner) (s : List ℕ) where
         two x true = refl
         two x false = refl
 
-        go : (y : Answer Scan) → and-then (map-answer (take-in s) y) (fitting e)
+        go : (y : Answer Scan) → and-then (map-answer (take-in s) y) (edition-take e)
             ≡ map-answer (λ x. write-edition e (take-in s x)) (and-then y (λ x. unless room model-name-too-long (given x)))
         go (declined k) = refl
         go (given x) = two x room

@@ -12,7 +12,7 @@ use Rattle.vmd_format.specs.Answer.{Answer, declined, given, and-then, map-answ
 use Rattle.vmd_format.specs.AnswerLaws.{fitted-length}
 use Rattle.vmd_format.specs.Read.{Manner, lenient}
 use Rattle.vmd_format.specs.Take.{Take, older, read-take, write-edition, write-take}
-use Rattle.vmd_format.specs.Join.{export-file, older-take, older-file, join, fit-together, join-takes, join-files}
+use Rattle.vmd_format.specs.Join.{export-file, edition-take, older-file, join, fit-together, join-takes, join-files}
 use Rattle.vmd_format.specs.RefusalLaws.{here, there, reading-numbers, Refuses, among-back, reading-refuses, refuses-more, refuses-then, refuses-unless}
 use Rattle.vmd_export.specs.Saved.{exported-answer, older-answer, joined-answer, export-size, older-size, join-size}
 
@@ -44,7 +44,7 @@ module _ (m : Manner) (limit : ℕ) where
       go (given t) = fitted-length limit (write-take t)
 
   older-order : (s : List ℕ) → map-answer length (fitted limit (older-file m s)) ≡ older-in-order m limit s
-  unfolding older-file older-take older-in-order map-answer fitted and-then unless
+  unfolding older-file edition-take older-in-order map-answer fitted and-then unless
   older-order s = go (read-take m s)
     where
       two : (t : Take) (b : Bool)
@@ -54,7 +54,7 @@ module _ (m : Manner) (limit : ℕ) where
       two t false = refl
 
       go : (x : Answer Take)
-          → map-answer length (fitted limit (and-then x older-take))
+          → map-answer length (fitted limit (and-then x (edition-take older)))
           ≡ and-then x (λ t. unless (leb (length (t .model)) 10) model-name-too-long (within limit (length (write-edition older t))))
       go (declined k) = refl
       go (given t) = two t (leb (length (t .model)) 10)

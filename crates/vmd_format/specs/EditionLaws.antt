@@ -130,7 +130,7 @@ module _ (s : List ℕ) where
   wide-length : length (widened s) ≡ 30 + (length (take 10 (drop 30 s)) + 10 + length (drop 40 s))
   wide-length = wide .long ∙ rw (length-append field (drop 40 s), field-length)
 
-  pub widened-length : 40 ≤ length s → length (widened s) ≡ 10 + length s
+  widened-length : 40 ≤ length s → length (widened s) ≡ 10 + length s
   widened-length h = omega (arith, wide-length, length-take 10 (drop 30 s), length-drop 30 s, length-drop 40 s)
 
   module _ (q : edition s ≡ given older) where

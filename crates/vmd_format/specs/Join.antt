@@ -13,13 +13,14 @@ use Rattle.vmd_format.specs.Take.{Edition, older, model-width, Take, rea
 unfoldable pub export-file : Manner → List ℕ → Answer (List ℕ)
 export-file m s = map-answer write-take (read-take m s)
 
+-- the file of a take in an edition whose field has room for its model name; no name that is read is over 20 bytes
+unfoldable pub edition-take : Edition → Take → Answer (List ℕ)
+edition-take e t = unless (leb (length (t .model)) (model-width e)) model-name-too-long (given (write-edition e t))
+
 -- 02 e): "A converter writes the older edition, .. with zeros after the magic and the name, then the export's bytes from its
 -- bone count on"; "15 the model name is over 10 bytes, converter only, tested just before 13"
-unfoldable pub older-take : Take → Answer (List ℕ)
-older-take t = unless (leb (length (t .model)) (model-width older)) model-name-too-long (given (write-edition older t))
-
 unfoldable pub older-file : Manner → List ℕ → Answer (List ℕ)
-older-file m s = and-then (read-take m s) older-take
+older-file m s = and-then (read-take m s) (edition-take older)
 
 -- "With b bones, m morphs, c cameras, l lights, s self-shadows, p properties and k IK states over all of them it writes 74 +
 -- 111b + 23m + 61c + 28l + 9s + 9p + 21k bytes"; in the older edition "10 bytes shorter"

@@ -12,7 +12,7 @@ use Rattle.vmd_format.specs.Answer.{given, and-then, unless}
 use Rattle.vmd_format.specs.Read.{Manner}
 use Rattle.vmd_format.specs.Take.{Take, Edition, newer, older, magic-of, model-width, edition, write-header, write-sections, write-edition, write-take}
 use Rattle.vmd_format.specs.TakeLaws.{begun, edition-small, edition-back}
-use Rattle.vmd_format.specs.Join.{older-take, older-file, file-length}
+use Rattle.vmd_format.specs.Join.{edition-take, older-file, file-length}
 use Rattle.vmd_format.specs.Lengths.{header-length, edition-length}
 use Rattle.vmd_format.specs.SavingLaws.{Accepted, well-formed}
 use Rattle.vmd_format.specs.EditionLaws.{model-fits, take-model, widened}
@@ -62,7 +62,7 @@ widened-written t h =
 
 module _ (m : Manner) {s : List ℕ} {t : Take} (h : Accepted m s t) where
   pub older-is : length (t .model) ≤ 10 → older-file m s ≡ given (write-edition older t)
-  unfolding older-file older-take and-then unless
+  unfolding older-file edition-take and-then unless
   older-is n = rw (h .reads, le-leb (length (t .model)) 10 n)
 
   -- the name of a file that is itself of the older edition
