@@ -35,7 +35,7 @@ enum vmd_refusal {
     VMD_OK = 0,
     VMD_ENDS_EARLY = 1,          /* the file ends early */
     VMD_MAGIC_DIFFERS = 2,       /* not a VMD file */
-    VMD_SCRATCH_TOO_SHORT = 3,   /* fewer scratch places than property frames */
+    VMD_SCRATCH_TOO_SHORT = 3,   /* fewer scratch places than a sixteenth of the property frames, rounded up */
     VMD_OUTSIDE = 4,             /* record or IK number at or above the count, or its place outside the file */
     VMD_PARTS_NOT_WHOLE = 5,     /* name table ends wrong, records not whole, properties cut or with bytes over */
     VMD_NAME_UNFIT = 6,          /* model name over 20 bytes, table name over 15, or a zero byte in one */
@@ -59,6 +59,11 @@ enum {
     VMD_SELF_SHADOW_SIZE = 9,
     VMD_PROPERTY_SIZE = 9, /* without its IK states */
     VMD_IK_STATE_SIZE = 21
+};
+
+/* Property frames to a place of the scratch, which is that of the first of them. */
+enum {
+    VMD_FRAMES_PER_PLACE = 16
 };
 
 /*
@@ -96,8 +101,12 @@ enum {
 /*
  * Checks a whole file. counts receives the number of records of each section, places where each section's records begin (the
  * file's length where its count is missing or it was emptied), totals the number of IK states, the smallest frame and the
- * largest (VMD_TOTAL_.. above; both frames 0 with no records). scratch receives the byte position of each property frame,
- * first places first; further places keep their contents. Refusals: 1, 2, 3.
+ * largest (VMD_TOTAL_.. above; both frames 0 with no records). Place j of scratch receives the byte position of property
+ * frame 16j: with n property frames the first (n + 15) / 16 places are written, and further places keep their contents. A
+ * scratch of (file_len / 9 + 15) / 16 places is enough for any file. Refusals: 1, 2, 3.
+ *
+ * scratch had a place for each property frame before. A program that only lends it to the calls below works as it did; one
+ * that looks up positions in it, or writes them, has to be changed.
  *
  * totals had two numbers before it had the smallest frame, and the largest was the second of them: a program that was
  * compiled with such a header lends too short a slot and looks for the largest in another place, and has to be changed and
@@ -111,6 +120,10 @@ uint32_t vmd_parse_animation(const uint8_t *file, size_t file_len, uint64_t *scr
  *
  * counts, places and scratch are an opening's. With those of another file a call gives the record that the layout reads at
  * the place they name, or 4. The only refusal is 4.
+ *
+ * Property frame i is found from place i / 16 of scratch by a walk over i % 16 frames, at most 15. It is 4 where scratch has
+ * no such place, and where the walk leaves the file: each frame walked over has to have its nine bytes and its IK states in
+ * it, the frame asked for its nine bytes, and an IK state asked for its own 21.
  */
 
 /* frame, translation x y z, rotation x y z w */
@@ -134,6 +147,16 @@ uint32_t vmd_self_shadow_frame(const uint8_t *file, size_t file_len, const uint3
 /* frame, visible (0 or 1), number of IK states */
 uint32_t vmd_property_frame(const uint8_t *file, size_t file_len, const uint32_t counts[6], const uint64_t places[6],
                             const uint64_t *scratch, size_t scratch_len, size_t i, uint32_t record[3]);
+/*
+ * The property frame at a place of the file, as vmd_property_frame gives it, and the place of the next one: from
+ * places[VMD_PROPERTIES] on this reads the counts[VMD_PROPERTIES] frames of a file one after another, without scratch and
+ * without walks. Any nine bytes read as a frame, whatever they were meant for. 4 where they, or the IK states that they
+ * count, are not in the file.
+ *
+ * The frame's IK states: vmd_ik_state and vmd_ik_name with i = 0, one property frame in counts, and a scratch of one place,
+ * the frame's. The argument places is not looked at for property frames.
+ */
+uint32_t vmd_property_frame_at(const uint8_t *file, size_t file_len, uint64_t place, uint32_t record[3], uint64_t *next);
 /* IK state j of property frame i: enabled (0 or 1) */
 uint32_t vmd_ik_state(const uint8_t *file, size_t file_len, const uint32_t counts[6], const uint64_t places[6],
                       const uint64_t *scratch, size_t scratch_len, size_t i, size_t j, uint32_t *enabled);

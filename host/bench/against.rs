@@ -30,24 +30,35 @@ fn load(path: &str) -> Run {
     }
 }
 
-/// The time of a call by the new build, as a multiple of the old one's in the same round.
-fn ratios(call: Call, material: &Material, out: &mut [u8], [new, old]: [Run; 2], batch: u32) -> Vec<f64> {
-    let mut time = |run: Run| after(1, batch, || run(call, material, out));
-    let mut ratios = Vec::new();
-    for round in 0..ROUNDS {
-        let (new, old) = if round % 2 == 0 {
+/// Seconds of a call by the new build and by the old one, round by round.
+fn times(call: Call, material: &Material, out: &mut [u8], [new, old]: [Run; 2], batch: u32) -> Vec<[f64; 2]> {
+    let mut time = |run: Run| {
+        if call == Call::Fetches {
+            run(Call::Open, material, out); // for the scratch, which is each build's own
+        }
+        after(1, batch, || run(call, material, out))
+    };
+    let round = |round| {
+        if round % 2 == 0 {
             let new = time(new);
-            (new, time(old))
+            [new, time(old)]
         } else {
             let old = time(old);
-            (time(new), old)
-        };
-        ratios.push(new / old);
-    }
-    ratios
+            [time(new), old]
+        }
+    };
+    (0..ROUNDS).map(round).collect()
 }
 
-pub fn table(calls: &[Call], size: usize, batch: u32, [new, old]: [&str; 2]) {
+/// The new build's time as a multiple of the old one's in the same round: the median, and a cell with between which values
+/// half of the rounds lie.
+fn compared(times: &[[f64; 2]]) -> (f64, String) {
+    let ratios: Vec<_> = times.iter().map(|[new, old]| new / old).collect();
+    let half = format!("{:.3} to {:.3}", quarter(ratios.clone(), 1), quarter(ratios.clone(), 3));
+    (median(ratios), half)
+}
+
+pub fn table(calls: &[Call], size: usize, batch: u32, builds: [&str; 2]) {
     println!("\n## Against another build\n");
     println!(
         "Takes of {}, names of 4 to 10 bytes, buffers just touched. The time by this build as a multiple of the other's in the \
@@ -55,16 +66,37 @@ pub fn table(calls: &[Call], size: usize, batch: u32, [new, old]: [&str; 2]) {
         shown(size)
     );
     head(["take", "call", "this / other", "half of the rounds", "at most 1.05"]);
-    let builds = [new, old].map(load);
+    let builds = builds.map(load);
     for kind in Kind::ALL {
         let material = Material::new(kind, Names::Padded, size);
         let mut out = material.output();
         for &call in calls {
-            let ratios = ratios(call, &material, &mut out, builds, batch);
-            let half = format!("{:.3} to {:.3}", quarter(ratios.clone(), 1), quarter(ratios.clone(), 3));
-            let ratio = median(ratios);
+            let (ratio, half) = compared(&times(call, &material, &mut out, builds, batch));
             let met = if ratio <= 1.05 { "met" } else { "MISSED" };
             row([kind.name().into(), call.name().into(), format!("{ratio:.3}"), half, met.into()]);
         }
+    }
+}
+
+/// By number, as earlier builds have it too, which keep a place for each frame.
+pub fn fetches(size: usize, builds: [&str; 2]) {
+    println!("\n## Property frames by number, against another build\n");
+    println!(
+        "All property frames of takes of {}, fetched in the file's order by numbers, without the opening; buffers just \
+         touched, medians of {ROUNDS} rounds.",
+        shown(size)
+    );
+    head(["take", "this, ns per frame", "other, ns per frame", "this / other", "half of the rounds"]);
+    let builds = builds.map(load);
+    for kind in [Kind::Properties, Kind::IkStates] {
+        let material = Material::new(kind, Names::Padded, size);
+        let times = times(Call::Fetches, &material, &mut material.output(), builds, 1);
+        let frames = material.columns.property_count as f64;
+        let [new, old] = [0, 1].map(|build| {
+            let seconds = median(times.iter().map(|times| times[build]).collect());
+            format!("{:.1}", 1e9 * seconds / frames)
+        });
+        let (ratio, half) = compared(&times);
+        row([kind.name().into(), new, old, format!("{ratio:.2}"), half]);
     }
 }

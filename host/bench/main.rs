@@ -21,6 +21,7 @@ mod measure;
 mod older;
 #[cfg(feature = "original")]
 mod original;
+mod properties;
 mod split;
 mod tables;
 mod takes;
@@ -348,7 +349,11 @@ fn main() {
         [option, new, old] if option == "--against" || option == "--opening" => {
             println!("Measured by `./bench` on {}.", machine());
             let calls = if option == "--opening" { &[Call::Open][..] } else { &Call::ALL };
-            return against::table(calls, full, effort(full).batch, [new, old]);
+            against::table(calls, full, effort(full).batch, [new, old]);
+            if option == "--against" {
+                against::fetches(full, [new, old]);
+            }
+            return;
         }
         [option] if option == "--split" => {
             println!("Measured by `./bench` on {}.", machine());
@@ -362,6 +367,10 @@ fn main() {
             println!("Measured by `./bench` on {}.", machine());
             return older::table(full, &Other::new());
         }
+        [option] if option == "--properties" => {
+            println!("Measured by `./bench` on {}.", machine());
+            return properties::table(full, &Other::new());
+        }
         [option] if option == "--names" => {
             println!("Measured by `./bench` on {}.", machine());
             return split::all_different(if quick { [30_000, 140_000] } else { [300_000, 1_400_000] });
@@ -372,8 +381,8 @@ fn main() {
         }
         _ => {
             eprintln!(
-                "bench: the options are --quick, which measures small takes, --older, --split, --season, --tables, --names, \
-                 --against LIBRARY and --opening LIBRARY"
+                "bench: the options are --quick, which measures small takes, --older, --properties, --split, --season, \
+                 --tables, --names, --against LIBRARY and --opening LIBRARY"
             );
             std::process::exit(2);
         }
@@ -392,6 +401,7 @@ fn main() {
     }
     older::table(full, &other);
     growth(&sizes, &other);
+    properties::table(full, &other);
     split::table(split_sizes, &other);
     split::season(full, &other);
     tables::table(table_names, full);

@@ -8,10 +8,11 @@ pub enum Kind {
     Mixed,
     Morphs,
     Properties,
+    IkStates,
 }
 
 impl Kind {
-    pub const ALL: [Kind; 4] = [Kind::Bones, Kind::Mixed, Kind::Morphs, Kind::Properties];
+    pub const ALL: [Kind; 5] = [Kind::Bones, Kind::Mixed, Kind::Morphs, Kind::Properties, Kind::IkStates];
     /// Those that shows have.
     pub const USUAL: [Kind; 3] = [Kind::Bones, Kind::Mixed, Kind::Morphs];
 
@@ -21,17 +22,19 @@ impl Kind {
             Kind::Mixed => "60% bones, 30% morphs, 10% cameras",
             Kind::Morphs => "morphs",
             Kind::Properties => "property frames",
+            Kind::IkStates => "property frames of 2 IK states",
         }
     }
 
-    /// How many bones, morphs, cameras and property frames make up so many bytes.
-    fn counts(self, size: usize) -> [usize; 4] {
+    /// How many bones, morphs, cameras and property frames make up so many bytes, and the IK states of each property frame.
+    fn counts(self, size: usize) -> [usize; 5] {
         let size = size - 74;
         match self {
-            Kind::Bones => [size / 111, 0, 0, 0],
-            Kind::Mixed => [size * 6 / 10 / 111, size * 3 / 10 / 23, size / 10 / 61, 0],
-            Kind::Morphs => [0, size / 23, 0, 0],
-            Kind::Properties => [0, 0, 0, size / 9],
+            Kind::Bones => [size / 111, 0, 0, 0, 0],
+            Kind::Mixed => [size * 6 / 10 / 111, size * 3 / 10 / 23, size / 10 / 61, 0, 0],
+            Kind::Morphs => [0, size / 23, 0, 0, 0],
+            Kind::Properties => [0, 0, 0, size / 9, 0], // the most frames for the bytes
+            Kind::IkStates => [0, 0, 0, size / 51, 2],
         }
     }
 }
@@ -149,6 +152,7 @@ pub struct Columns {
     pub name_ends: Vec<u32>,
     pub cameras: Vec<u8>,
     pub properties: Vec<u8>,
+    pub property_count: usize,
     pub bone_indices: Vec<u32>,
     pub bone_frames: Vec<u32>,
     pub translations: Vec<f32>,
@@ -220,9 +224,9 @@ impl Material {
     }
 }
 
-fn columns([bones, morphs, cameras, properties]: [usize; 4], names: Names) -> Columns {
+fn columns([bones, morphs, cameras, properties, ik_states]: [usize; 5], names: Names) -> Columns {
     let mut random = Random(2_463_534_242);
-    let mut c = Columns::default();
+    let mut c = Columns { property_count: properties, ..Default::default() };
     let table = table(bones.max(morphs));
     for n in 0..table {
         c.name_bytes.extend(names.bytes(n));
@@ -249,7 +253,12 @@ fn columns([bones, morphs, cameras, properties]: [usize; 4], names: Names) -> Co
     }
     for i in 0..properties {
         c.properties.extend((i as u32).to_le_bytes());
-        c.properties.extend([1, 0, 0, 0, 0]); // visible, and no IK states: the most frames for the bytes
+        c.properties.push(1); // visible
+        c.properties.extend((ik_states as u32).to_le_bytes());
+        for j in 0..ik_states {
+            c.properties.extend(names.bytes(j).iter().chain(&[0; 20]).take(20));
+            c.properties.push(((i + j) % 2) as u8);
+        }
     }
     c
 }
@@ -264,7 +273,7 @@ pub fn with_names(kind: Kind, names: usize, order: Order, size: usize) -> Vec<u8
 
 /// A take of so many bones or morphs, each with a name of its own. The names' bytes rise with their numbers.
 pub fn all_different(kind: Kind, order: Order, records: usize) -> Vec<u8> {
-    let counts = if kind == Kind::Bones { [records, 0, 0, 0] } else { [0, records, 0, 0] };
+    let counts = if kind == Kind::Bones { [records, 0, 0, 0, 0] } else { [0, records, 0, 0, 0] };
     let mut c = columns(counts, Names::Padded);
     c.bone_indices = order.indices(counts[0], records);
     c.morph_indices = order.indices(counts[1], records);
@@ -299,7 +308,7 @@ fn file_with(c: &Columns, fields: &[[u8; 15]]) -> Vec<u8> {
     file.extend((c.cameras.len() as u32 / 61).to_le_bytes());
     file.extend(&c.cameras);
     file.extend([0; 8]);
-    file.extend((c.properties.len() as u32 / 9).to_le_bytes());
+    file.extend((c.property_count as u32).to_le_bytes());
     file.extend(&c.properties);
     file
 }

@@ -65,7 +65,7 @@ fn part_of(file: &[u8], [at, len]: [u64; 2]) -> &[u8] {
 }
 
 /// Memory for just `len` elements, which is not cleared.
-fn reserve<T>(memory: &mut Vec<T>, len: u64) -> Result<usize, Error> {
+pub fn reserve<T>(memory: &mut Vec<T>, len: u64) -> Result<usize, Error> {
     let error = Error::NoMemory(len.saturating_mul(size_of::<T>() as u64));
     let room = usize::try_from(len).map_err(|_| error)?;
     memory.try_reserve_exact(room).map_err(|_| error)?;
@@ -85,6 +85,7 @@ fn written(size: u64, write: impl FnOnce(*mut u8, usize, *mut u64) -> u32) -> Re
     Ok(out)
 }
 
+/// Place j of the scratch receives where property frame 16j stands.
 pub fn open(file: &[u8], scratch: &mut [u64]) -> Result<Opening, Refusal> {
     let mut o = Opening { counts: [0; 6], places: [0; 6], totals: [0; 3] };
     // SAFETY: two slices, and the three arrays of an opening of this function's own.
@@ -121,6 +122,15 @@ pub fn property_frame(file: &[u8], o: &Opening, scratch: &[u64], i: usize) -> Op
     (number == 0).then_some(record)
 }
 
+/// The property frame at a place, and the place of the next one.
+#[inline] // also in other crates: in a walk each call waits for the last one's `next`, which should stay in a register
+pub fn property_frame_at(file: &[u8], place: u64) -> Option<([u32; 3], u64)> {
+    let (mut record, mut next) = ([0; 3], 0);
+    // SAFETY: a slice, and an array and a number of this function's own.
+    let number = unsafe { header::vmd_property_frame_at(file.as_ptr(), file.len(), place, &mut record, &mut next) };
+    (number == 0).then_some((record, next))
+}
+
 pub fn ik_state(file: &[u8], o: &Opening, scratch: &[u64], i: usize, j: usize) -> Option<bool> {
     let (counts, places) = (&o.counts, &o.places);
     let mut enabled = 0;
@@ -139,6 +149,19 @@ pub fn ik_name<'f>(file: &'f [u8], o: &Opening, scratch: &[u64], i: usize, j: us
         header::vmd_ik_name(file.as_ptr(), file.len(), counts, places, scratch.as_ptr(), scratch.len(), i, j, &mut part)
     };
     part_of(file, part)
+}
+
+/// One property frame: with a scratch that has its place alone, a fetch by number 0 walks over none.
+const ONE_PROPERTY_FRAME: Opening = Opening { counts: [0, 0, 0, 0, 0, 1], places: [0; 6], totals: [0; 3] };
+
+/// IK state `j` of the property frame at a place.
+pub fn ik_state_at(file: &[u8], place: u64, j: usize) -> Option<bool> {
+    ik_state(file, &ONE_PROPERTY_FRAME, &[place], 0, j)
+}
+
+/// Its name.
+pub fn ik_name_at(file: &[u8], place: u64, j: usize) -> &[u8] {
+    ik_name(file, &ONE_PROPERTY_FRAME, &[place], 0, j)
 }
 
 pub fn model_name(file: &[u8]) -> &[u8] {
@@ -496,8 +519,212 @@ mod tests {
             let mut scratch = [7; 3];
             (open(&file, &mut scratch).unwrap().places, scratch)
         });
-        assert_eq!(places[0], ([54, 58, 62, 66, 70, 74], [74, 83, 7]));
-        assert_eq!(places[1], ([44, 48, 52, 56, 60, 64], [64, 73, 7]));
+        assert_eq!(places[0], ([54, 58, 62, 66, 70, 74], [74, 7, 7]));
+        assert_eq!(places[1], ([44, 48, 52, 56, 60, 64], [64, 7, 7]));
+    }
+
+    /// A property frame of [`property_take`]: where it stands, and how it is to be read.
+    struct Frame {
+        place: usize,
+        record: [u32; 3],
+        states: Vec<(bool, &'static [u8])>,
+        end: usize,
+    }
+
+    /// A take of property frames, of which frame `i` has `i % 6` IK states.
+    fn property_take(n: usize) -> (Vec<u8>, Vec<Frame>) {
+        const NAMES: [&[u8]; 5] = [b"left leg", b"right leg", b"", b"twenty bytes of name", b"x"];
+        let mut file = [b"Vocaloid Motion Data 0002\0\0\0\0\0", &[0; 40][..], &(n as u32).to_le_bytes()].concat();
+        let mut frames = Vec::new();
+        for i in 0..n {
+            let place = file.len();
+            let states: Vec<_> = (0..i % 6).map(|j| ((i + j) % 2 == 1, NAMES[j])).collect();
+            let record = [1000 + i as u32, (i % 3 != 0).into(), states.len() as u32];
+            file.extend(record[0].to_le_bytes());
+            file.push((i % 3) as u8);
+            file.extend(record[2].to_le_bytes());
+            for (enabled, name) in &states {
+                file.extend(name.iter().chain(&[0, 0xC5]).chain(&[0; 20]).take(20));
+                file.push((*enabled).into());
+            }
+            frames.push(Frame { place, record, states, end: file.len() });
+        }
+        (file, frames)
+    }
+
+    /// An opening's number and slots, which held 9s.
+    fn opened(file: &[u8], scratch: &mut [u64]) -> (u32, [u32; 6], [u64; 6], [u64; 3]) {
+        let (mut counts, mut places, mut totals) = ([9; 6], [9; 6], [9; 3]);
+        let (at, len) = (scratch.as_mut_ptr(), scratch.len());
+        // SAFETY: two slices, and three arrays of this function's own.
+        let number = unsafe {
+            header::vmd_parse_animation(file.as_ptr(), file.len(), at, len, &mut counts, &mut places, &mut totals)
+        };
+        (number, counts, places, totals)
+    }
+
+    /// 3 below a sixteenth of the frames, rounded up, and all that was lent is as it was; from there on the place of every
+    /// 16th frame, and further places are as they were. A file that is refused for itself is so with any scratch.
+    #[test]
+    fn a_place_for_sixteen_property_frames() {
+        for (n, needed) in [(0, 0), (1, 1), (2, 1), (15, 1), (16, 1), (17, 2), (31, 2), (32, 2), (33, 3), (48, 3), (49, 4)] {
+            let (file, frames) = property_take(n);
+            let all: Vec<u64> = frames.iter().step_by(16).map(|frame| frame.place as u64).collect();
+            for places in 0..needed {
+                let mut scratch = vec![7; places];
+                assert_eq!(opened(&file, &mut scratch), (3, [9; 6], [9; 6], [9; 3]), "{n} frames, {places} places");
+                assert_eq!(scratch, vec![7; places]);
+                assert_eq!(open(&file, &mut scratch).unwrap_err(), Refusal::ScratchTooShort);
+                assert_eq!(open(&file[..file.len() - 1], &mut scratch).unwrap_err(), Refusal::EndsEarly);
+            }
+            for more in [0, 1, 20] {
+                let mut scratch = vec![7; needed + more];
+                let (number, counts, places, _) = opened(&file, &mut scratch);
+                assert_eq!((number, counts[5], places[5]), (0, n as u32, 74), "{n} frames, {more} places more");
+                assert_eq!(scratch, [&all[..], &vec![7; more]].concat(), "{n} frames, {more} places more");
+            }
+        }
+    }
+
+    /// Whether each IK state of a frame is on, and its name, in a file of so many bytes.
+    fn expect_states(frame: &Frame, len: usize, fetch: impl Fn(usize) -> (Option<bool>, Vec<u8>)) {
+        for j in 0..7 {
+            let state = frame.states.get(j).filter(|_| frame.place + 9 + 21 * (j + 1) <= len);
+            let expected = (state.map(|state| state.0), state.map_or(vec![], |state| state.1.to_vec()));
+            assert_eq!(fetch(j), expected, "state {j} of {:?}, {len} bytes", frame.record);
+        }
+    }
+
+    /// With the opening of the whole file: a frame is found where its nine bytes are there, and an IK state where all of its
+    /// are. A walk that leaves the file is none.
+    #[test]
+    fn property_frames_of_a_file_that_was_cut() {
+        let (file, frames) = property_take(40);
+        let mut scratch = [0; 3];
+        let o = open(&file, &mut scratch).unwrap();
+        for end in 0..=file.len() {
+            let cut = &file[..end];
+            for (i, frame) in frames.iter().enumerate() {
+                let is_there = frame.place + 9 <= end;
+                let record = property_frame(cut, &o, &scratch, i);
+                assert_eq!(record, is_there.then_some(frame.record), "frame {i}, {end} bytes");
+                let of_number = |j| (ik_state(cut, &o, &scratch, i, j), ik_name(cut, &o, &scratch, i, j).to_vec());
+                expect_states(frame, end, of_number);
+                let place = frame.place as u64;
+                expect_states(frame, end, |j| (ik_state_at(cut, place, j), ik_name_at(cut, place, j).to_vec()));
+            }
+        }
+    }
+
+    /// Places that no frame has: of the 16 frames that such a place serves there is none, and the others are.
+    #[test]
+    fn a_scratch_of_another_file() {
+        let (file, frames) = property_take(40);
+        let mut scratch = [0; 3];
+        let o = open(&file, &mut scratch).unwrap();
+        let found = |scratch: &[u64]| -> Vec<_> { (0..60).map(|i| property_frame(&file, &o, scratch, i)).collect() };
+        let mut own: Vec<_> = frames.iter().map(|frame| Some(frame.record)).collect();
+        own.resize(60, None);
+        assert_eq!(found(&scratch), own);
+        let end = file.len() as u64;
+        for place in [end - 8, end, end + 1, 1 << 32, (1 << 63) - 1, 1 << 63, u64::MAX - 8, u64::MAX] {
+            for j in 0..3 {
+                let (mut other, mut expected) = (scratch, own.clone());
+                other[j] = place;
+                expected[16 * j..16 * j + 16].fill(None);
+                assert_eq!(found(&other), expected, "place {j} is {place}");
+            }
+        }
+        for places in 0..3 {
+            let mut expected = own.clone();
+            expected[16 * places..].fill(None);
+            assert_eq!(found(&scratch[..places]), expected, "{places} places");
+        }
+        // another frame's place: the frames from there on
+        let other = [frames[3].place as u64, scratch[0], scratch[1]];
+        let numbers = (3..19).chain(0..16).chain(16..24);
+        assert!(found(&other)[..40].iter().copied().eq(numbers.map(|i| Some(frames[i].record))));
+        // more frames than there are, by the count: the walk leaves the file after the last
+        let more = Opening { counts: [u32::MAX; 6], ..o };
+        let last: Vec<_> = (32..60).map(|i| property_frame(&file, &more, &scratch, i)).collect();
+        assert_eq!(last, own[32..]);
+    }
+
+    /// A frame whose IK states would end far after the file: it is there, and nothing comes after it.
+    #[test]
+    fn more_ik_states_than_any_file_has() {
+        const WRAPPED: u32 = 204_522_253; // 21 times it is 17 in 32 bits
+        for states in [5, WRAPPED, u32::MAX] {
+            let (mut file, frames) = property_take(1);
+            let place = file.len() as u64;
+            file.extend([0xFF; 5]);
+            file.extend(states.to_le_bytes());
+            file.extend([0xFF; 21 * 4 + 20]);
+            let o = Opening { counts: [0, 0, 0, 0, 0, 9], places: [0; 6], totals: [0; 3] };
+            let found = |scratch: &[u64]| [0, 1, 2].map(|i| property_frame(&file, &o, scratch, i));
+            let long = Some([u32::MAX, 1, states]);
+            assert_eq!(found(&[place]), [long, None, None]);
+            assert_eq!(found(&[74]), [Some(frames[0].record), long, None]);
+            assert_eq!(property_frame_at(&file, place), None);
+            assert_eq!((ik_state_at(&file, place, 3), ik_state_at(&file, place, 4)), (Some(true), None));
+            assert_eq!([usize::MAX, 1 << 63, WRAPPED as usize].map(|j| ik_state_at(&file, place, j)), [None; 3]);
+        }
+    }
+
+    /// The number, and the slots, which held 7s.
+    fn frame_at(file: &[u8], place: u64) -> (u32, [u32; 3], u64) {
+        let (mut record, mut next) = ([7; 3], 7);
+        // SAFETY: a slice, and an array and a number of this function's own.
+        let number = unsafe { header::vmd_property_frame_at(file.as_ptr(), file.len(), place, &mut record, &mut next) };
+        (number, record, next)
+    }
+
+    const NO_FRAME: (u32, [u32; 3], u64) = (4, [7; 3], 7);
+
+    /// One after another, from the section's place to the end of the file; none where the file ends before the frame does.
+    #[test]
+    fn the_property_frame_at_a_place() {
+        let (file, frames) = property_take(20);
+        let mut place = open(&file, &mut [0; 2]).unwrap().places[5];
+        for frame in &frames {
+            assert_eq!(place, frame.place as u64);
+            let (record, next) = property_frame_at(&file, place).unwrap();
+            assert_eq!((record, next), (frame.record, frame.end as u64));
+            place = next;
+        }
+        assert_eq!((place, property_frame_at(&file, place)), (file.len() as u64, None));
+        for end in 0..=file.len() {
+            for frame in &frames {
+                let found = (0, frame.record, frame.end as u64);
+                let expected = if frame.end <= end { found } else { NO_FRAME };
+                assert_eq!(frame_at(&file[..end], frame.place as u64), expected, "{end} bytes");
+            }
+        }
+        let end = file.len() as u64;
+        for place in (end - 8..end + 30).chain([1 << 32, (1 << 63) - 1, 1 << 63, u64::MAX - 8, u64::MAX]) {
+            assert_eq!(frame_at(&file, place), NO_FRAME, "place {place}");
+        }
+        assert_eq!([0, 1, u64::MAX].map(|place| frame_at(&[], place)), [NO_FRAME; 3]);
+    }
+
+    /// At any place, whatever stands there, what the layout reads.
+    #[test]
+    fn the_property_frame_at_any_place() {
+        let (file, _) = property_take(20);
+        let number = |at: usize| u32::from_le_bytes(file[at..at + 4].try_into().unwrap());
+        let mut found = 0;
+        for place in 0..file.len() - 8 {
+            let states = number(place + 5);
+            let next = place as u64 + 9 + 21 * u64::from(states);
+            let expected = if next <= file.len() as u64 {
+                found += 1;
+                (0, [number(place), (file[place + 4] != 0).into(), states], next)
+            } else {
+                NO_FRAME
+            };
+            assert_eq!(frame_at(&file, place as u64), expected, "place {place}");
+        }
+        assert!(found > 200 && found < file.len() - 200, "{found}");
     }
 
     /// A refused call leaves the slot for the length as it was, one that is done the rest of the output.

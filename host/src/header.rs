@@ -1,4 +1,4 @@
-//! The functions of include/vmd.h, its sizes of records and its indices, declared for Rust. This is the only such
+//! The functions of include/vmd.h and its numbers, declared for Rust. This is the only such
 //! declaration: the crate has it, and the comparison with the original (oracle/) and the benchmark take this file.
 //! tests/interface.rs holds it to the header, parameter by parameter.
 
@@ -13,6 +13,10 @@ pub mod sizes {
     pub const VMD_PROPERTY_SIZE: u64 = 9; // without its IK states
     pub const VMD_IK_STATE_SIZE: u64 = 21;
 }
+
+/// Property frames to a place of the scratch, which is that of the first of them.
+#[allow(dead_code)] // each user needs some of them
+pub const VMD_FRAMES_PER_PLACE: usize = 16;
 
 /// Where a section, each of an opening's totals and each of a season's figures stands in the arrays that have them.
 #[allow(dead_code)] // each user needs some of them
@@ -76,6 +80,9 @@ unsafe extern "C" {
     pub fn vmd_property_frame(
         file: *const u8, file_len: usize, counts: *const [u32; 6], places: *const [u64; 6],
         scratch: *const u64, scratch_len: usize, i: usize, record: *mut [u32; 3],
+    ) -> u32;
+    pub fn vmd_property_frame_at(
+        file: *const u8, file_len: usize, place: u64, record: *mut [u32; 3], next: *mut u64,
     ) -> u32;
     pub fn vmd_ik_state(
         file: *const u8, file_len: usize, counts: *const [u32; 6], places: *const [u64; 6],

@@ -43,6 +43,7 @@ mod c;
 #[allow(unsafe_code)]
 mod header;
 mod parts;
+mod properties;
 mod refusal;
 mod rights;
 mod save;

@@ -53,8 +53,8 @@ refusals! {
     EndsEarly = 1, "the file ends early";
     /// The first 26 bytes are neither edition's magic.
     MagicDiffers = 2, "the file is not a VMD take";
-    /// Fewer scratch places than property frames. [`Take`](crate::Take) lends enough.
-    ScratchTooShort = 3, "the scratch has fewer places than the file has property frames";
+    /// Fewer scratch places than a sixteenth of the property frames, rounded up. [`Take`](crate::Take) lends enough.
+    ScratchTooShort = 3, "the scratch has fewer places than a sixteenth of the file's property frames, rounded up";
     /// A record or IK number at or above the count, or its place outside the file. [`Take`](crate::Take) gives `None`.
     Outside = 4, "the file has no such record";
     /// A name table's ends are wrong, record bytes are no whole records, or property frames are cut or have bytes over.

@@ -3,12 +3,16 @@ use std::borrow::Cow;
 use crate::c;
 use crate::header::indices::{VMD_TOTAL_IK_STATES, VMD_TOTAL_LARGEST_FRAME, VMD_TOTAL_SMALLEST_FRAME};
 use crate::parts::OwnedParts;
-use crate::refusal::{Error, Refusal};
+use crate::properties::{self, PropertyWalk};
+use crate::refusal::Error;
 
 /// An accepted take: the file's bytes, owned or borrowed, and what opening found in them.
 ///
 /// Records are fetched by number, `None` at and above the count, or come one after another. Names are the bytes before the
 /// first zero, and lie in the file; floats have the file's 32 bits.
+///
+/// Property frames have no fixed size. A take keeps the place of every 16th, and a fetch by number walks on from there, over
+/// 15 others at most; one after another they are read without such walks.
 ///
 /// ```
 /// let mut file = b"Vocaloid Motion Data 0002".to_vec();
@@ -32,6 +36,7 @@ use crate::refusal::{Error, Refusal};
 pub struct Take<'a> {
     file: Cow<'a, [u8]>,
     opening: c::Opening,
+    /// Where every 16th property frame stands.
     scratch: Vec<u64>,
 }
 
@@ -87,7 +92,8 @@ pub struct SelfShadowFrame {
     pub distance: f32,
 }
 
-/// A property frame; its IK states are fetched by its number ([`Take::ik_states_of`], [`Take::ik_state`]).
+/// A property frame. Its IK states are fetched by its number ([`Take::ik_states_of`], [`Take::ik_state`]), or come with it
+/// ([`Take::property_frames_with_ik_states`]).
 #[derive(Clone, Copy, Debug, PartialEq, Eq)]
 #[allow(missing_docs)]
 pub struct PropertyFrame {
@@ -95,6 +101,12 @@ pub struct PropertyFrame {
     pub visible: bool,
     /// How many IK states it has.
     pub ik_states: u32,
+}
+
+impl PropertyFrame {
+    pub(crate) fn of([frame, visible, ik_states]: [u32; 3]) -> Self {
+        PropertyFrame { frame, visible: visible != 0, ik_states }
+    }
 }
 
 /// Whether a chain's inverse kinematics is on.
@@ -183,24 +195,8 @@ impl<'a> Take<'a> {
     /// Checks a whole file. It may be lent (`&[u8]`, `&Vec<u8>`) or given (`Vec<u8>`).
     pub fn open(file: impl Into<Cow<'a, [u8]>>) -> Result<Self, Error> {
         let file = file.into();
-        // How many property frames there are is not known before: a refused opening gives its number only. The scratch
-        // grows until it is enough, and a property frame has 9 bytes.
-        let most = file.len() / 9;
-        let mut scratch = Vec::new();
-        loop {
-            match c::open(&file, &mut scratch) {
-                Ok(opening) => {
-                    scratch.truncate(opening.counts[5] as usize);
-                    return Ok(Take { file, opening, scratch });
-                }
-                Err(Refusal::ScratchTooShort) if scratch.len() < most => {
-                    let places = (16 * scratch.len()).clamp(16, most.max(16));
-                    scratch.try_reserve_exact(places - scratch.len()).map_err(|_| Error::NoMemory(8 * places as u64))?;
-                    scratch.resize(places, 0);
-                }
-                Err(refusal) => return Err(refusal.into()),
-            }
-        }
+        let (opening, scratch) = properties::open(&file)?;
+        Ok(Take { file, opening, scratch })
     }
 
     /// The file's bytes.
@@ -310,8 +306,7 @@ impl<'a> Take<'a> {
 
     /// Property frame `i`.
     pub fn property(&self, i: usize) -> Option<PropertyFrame> {
-        let r = c::property_frame(&self.file, &self.opening, &self.scratch, i)?;
-        Some(PropertyFrame { frame: r[0], visible: r[1] != 0, ik_states: r[2] })
+        c::property_frame(&self.file, &self.opening, &self.scratch, i).map(PropertyFrame::of)
     }
 
     /// IK state `j` of property frame `i`.
@@ -345,22 +340,59 @@ impl<'a> Take<'a> {
         records(self.self_shadows(), |i| self.self_shadow(i))
     }
 
-    /// The property frames, in the file's order.
+    /// The property frames, in the file's order. Each is read where the one before it ends; from the back each is reached by
+    /// a walk, as by number.
     pub fn property_frames(&self) -> impl ExactSizeIterator<Item = PropertyFrame> + DoubleEndedIterator {
-        records(self.properties(), |i| self.property(i))
+        self.property_walk(|_, frame| frame)
     }
 
-    /// The IK states of property frame `i`, in the file's order; none where there is no such frame.
+    /// The property frames in the same way, each with its IK states, in the file's order.
+    ///
+    /// ```
+    /// # let state = |name: &[u8], enabled| [name, &vec![0; 20 - name.len()], &[enabled]].concat();
+    /// # let states = [state(b"left leg", 1), state(b"right leg", 0)].concat();
+    /// # let frames = [&[0, 0, 0, 0, 1, 0, 0, 0, 0, 30, 0, 0, 0, 1, 2, 0, 0, 0], &states[..]].concat();
+    /// # let file = vmd::Parts { property_frames: &frames, ..Default::default() }.build()?;
+    /// let take = vmd::Take::open(&file)?;
+    /// let mut off = Vec::new();
+    /// for (property, states) in take.property_frames_with_ik_states() {
+    ///     off.extend(states.filter(|state| !state.enabled).map(|state| (property.frame, state.name)));
+    /// }
+    /// assert_eq!(off, [(30, &b"right leg"[..])]);
+    /// # Ok::<(), vmd::Error>(())
+    /// ```
+    pub fn property_frames_with_ik_states(
+        &self,
+    ) -> impl ExactSizeIterator<Item = (PropertyFrame, impl ExactSizeIterator<Item = IkState<'_>> + DoubleEndedIterator)>
+    + DoubleEndedIterator {
+        self.property_walk(move |place, frame| (frame, self.ik_states_at(place, frame.ik_states)))
+    }
+
+    /// The IK states of property frame `i`, in the file's order; none where there is no such frame. The frame is looked for
+    /// once, not for each of its states.
     pub fn ik_states_of(&self, i: usize) -> impl ExactSizeIterator<Item = IkState<'_>> + DoubleEndedIterator {
-        let count = self.property(i).map_or(0, |property| property.ik_states as usize);
-        records(count, move |j| self.ik_state(i, j))
+        let found = self.property_walk(|place, frame| (place, frame.ik_states)).nth(i);
+        let (place, count) = found.unwrap_or_default();
+        self.ik_states_at(place, count)
+    }
+
+    fn property_walk<R, F: Fn(u64, PropertyFrame) -> R>(&self, make: F) -> PropertyWalk<'_, F> {
+        PropertyWalk::new(&self.file, &self.opening, &self.scratch, make)
+    }
+
+    /// So many IK states, of the property frame at a place.
+    fn ik_states_at(&self, place: u64, count: u32) -> impl ExactSizeIterator<Item = IkState<'_>> + DoubleEndedIterator {
+        records(count as usize, move |j| {
+            let enabled = c::ik_state_at(&self.file, place, j)?;
+            Some(IkState { name: c::ik_name_at(&self.file, place, j), enabled })
+        })
     }
 
     /// What the take would be built from. Where the builder takes these parts, the file it gives is the take's
     /// [`export`]; it does not take names that are not good Shift_JIS, floats that are not finite, and self-shadow modes
     /// above 2, which a file may have.
     ///
-    /// Refused with [`PartsDoNotFit`](Refusal::PartsDoNotFit) where the names of a table pass 4,294,967,295 bytes.
+    /// Refused with [`PartsDoNotFit`](crate::Refusal::PartsDoNotFit) where the names of a table pass 4,294,967,295 bytes.
     pub fn parts(&self) -> Result<OwnedParts, Error> {
         Ok(OwnedParts { model_name: self.model_name().to_vec(), ..c::split(self)? })
     }
@@ -384,8 +416,8 @@ pub fn export(file: &[u8]) -> Result<Vec<u8>, Error> {
 /// The canonical file of the older edition with a take's records and model name: 10 bytes shorter than [`export`], with the
 /// same bytes from the bone count on.
 ///
-/// Refused with [`ModelNameTooLong`](Refusal::ModelNameTooLong) where the model name has more than 10 bytes, for which the
-/// older edition has no room; a file of the older edition never is.
+/// Refused with [`ModelNameTooLong`](crate::Refusal::ModelNameTooLong) where the model name has more than 10 bytes, for
+/// which the older edition has no room; a file of the older edition never is.
 ///
 /// ```
 /// let file = vmd::Parts { model_name: b"dancer", ..Default::default() }.build()?;

@@ -42,10 +42,9 @@ fn the_leap_switches_the_legs_off() {
     let takes = make_examples::takes().unwrap();
     for name in ["leap.vmd", "show.vmd", "encore.vmd"] {
         let take = Take::open(named(&takes, name)).unwrap();
-        let enabled = take.property_frames().enumerate().map(|(i, property)| {
-            let states: Vec<_> = take.ik_states_of(i).map(|state| state.enabled).collect();
-            (property.frame, states)
-        });
+        let enabled = take
+            .property_frames_with_ik_states()
+            .map(|(property, states)| (property.frame, states.map(|state| state.enabled).collect::<Vec<_>>()));
         let expected = [(0, [true, true]), (20, [false, true]), (22, [false, false]), (55, [true, true])];
         assert!(enabled.eq(expected.map(|(frame, states)| (frame, states.to_vec()))), "{name}");
     }

@@ -118,8 +118,8 @@ fn refusals_have_the_same_names_and_numbers() {
 
 // ---- sizes and indices
 
-/// Every size of a record and every index, which the header's enums without a name have, has the same name and number in
-/// header.rs.
+/// Every size of a record, every index and the frames to a place, which the header's enums without a name have, has the same
+/// name and number in header.rs.
 #[test]
 fn sizes_and_indices_are_those_of_the_header() {
     let header = header();
@@ -132,7 +132,7 @@ fn sizes_and_indices_are_those_of_the_header() {
         (name.split_once(':').unwrap().0, number)
     });
     assert_eq!(declared.collect::<Vec<_>>(), named);
-    assert_eq!(named.len(), 7 + 6 + 3 + 2 + 6);
+    assert_eq!(named.len(), 7 + 1 + 6 + 3 + 2 + 6);
 }
 
 // ---- functions

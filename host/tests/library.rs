@@ -9,7 +9,9 @@ use std::path::Path;
 use std::thread;
 
 use common::{as_older, at_frames, bones, counts, older_start, start, widened};
-use vmd::{Error, Figures, Mean, NameTable, OwnedParts, Parts, PartsMut, Refusal, Season, TableSizes, Take};
+use vmd::{
+    Error, Figures, IkState, Mean, NameTable, OwnedParts, Parts, PartsMut, PropertyFrame, Refusal, Season, TableSizes, Take,
+};
 
 /// Records as a file has them, with a value of its own in every field.
 struct Records {
@@ -222,10 +224,12 @@ fn refused_files_are_told_by_their_number() {
     assert_eq!(vmd::join_size(&start(), &[0x41; 99]), Err(Refusal::EndsEarly));
 }
 
-/// The scratch grows to what a file needs.
+// ---- property frames
+
+/// The scratch is as long as a file needs it.
 #[test]
 fn as_many_property_frames_as_there_are() {
-    for n in [0, 1, 15, 16, 17, 255, 256, 257, 4096, 4097, 70_000] {
+    for n in [0, 1, 15, 16, 17, 255, 256, 257, 4096, 4097, 16_383, 16_384, 16_385, 70_000] {
         let mut file = counts(&[0, 0, 0, 0, 0, n]);
         for i in 0..n {
             file.extend(i.to_le_bytes());
@@ -235,6 +239,141 @@ fn as_many_property_frames_as_there_are() {
         assert_eq!(take.properties(), n as usize);
         assert!((0..n).all(|i| take.property(i as usize).unwrap().frame == i));
         assert!(take.property(n as usize).is_none());
+    }
+}
+
+/// A property frame as it is to be read, and its IK states.
+type Property = (PropertyFrame, Vec<IkState<'static>>);
+
+/// So many property frames with up to five IK states each, among them runs of 16 that have none and 16 that have five.
+fn properties(n: u32) -> Vec<Property> {
+    const NAMES: [&[u8]; 5] = [b"left leg", b"", b"twenty bytes of name", b"\x8D\xB6\x91\xAB", b"x"];
+    let property = |i: u32| {
+        let states = match i / 16 {
+            1 => 0,
+            2 => 5,
+            _ => 7 * i % 6,
+        };
+        let state = |j: u32| IkState { name: NAMES[(i + j) as usize % 5], enabled: (i ^ j) % 3 < 2 };
+        let frame = PropertyFrame { frame: i.wrapping_mul(0x9E37_79B9), visible: i % 4 < 2, ik_states: states };
+        (frame, (0..states).map(state).collect())
+    };
+    (0..n).map(property).collect()
+}
+
+/// Their file, after a bone. What is true is written as any byte but zero, other bytes follow a name's zero, and the last
+/// frame is followed by zeros, which a larger count would have read as frames.
+fn with_properties(properties: &[Property]) -> Vec<u8> {
+    let mut file = bones(1, 1);
+    file.truncate(file.len() - 4);
+    file.extend((properties.len() as u32).to_le_bytes());
+    for (frame, states) in properties {
+        file.extend(frame.frame.to_le_bytes());
+        file.push(if frame.visible { 0x80 } else { 0 });
+        file.extend((states.len() as u32).to_le_bytes());
+        for state in states {
+            file.extend(state.name.iter().chain(b"\0after the name's end").take(20));
+            file.push(if state.enabled { 2 } else { 0 });
+        }
+    }
+    file.resize(file.len() + 40 * 9, 0);
+    file
+}
+
+/// By number and one after another, from both ends, in files of both editions.
+#[test]
+fn property_frames_and_their_ik_states() {
+    for n in 0..=70 {
+        let properties = properties(n as u32);
+        let newer = with_properties(&properties);
+        for file in [as_older(&newer), newer] {
+            let take = Take::open(file).unwrap();
+            let states = properties.iter().map(|(_, states)| states.len() as u64).sum();
+            assert_eq!((take.properties(), take.ik_states()), (n, states));
+            for (i, (frame, states)) in properties.iter().enumerate() {
+                assert_eq!(take.property(i), Some(*frame), "frame {i} of {n}");
+                assert!((0..7).all(|j| take.ik_state(i, j) == states.get(j).copied()), "frame {i} of {n}");
+                assert_eq!(take.ik_states_of(i).len(), states.len());
+                assert!(take.ik_states_of(i).eq(states.iter().copied()), "frame {i} of {n}");
+                assert!(take.ik_states_of(i).rev().eq(states.iter().rev().copied()), "frame {i} of {n}");
+            }
+            for i in [n, n + 1, n + 15, n + 16, 1 << 32, usize::MAX] {
+                assert_eq!((take.property(i), take.ik_state(i, 0), take.ik_states_of(i).next()), (None, None, None));
+            }
+            let frames = || properties.iter().map(|(frame, _)| *frame);
+            assert!(take.property_frames().eq(frames()));
+            assert!(take.property_frames().rev().eq(frames().rev()));
+            let collected = |(frame, states): (PropertyFrame, _)| (frame, Vec::from_iter(states));
+            assert!(take.property_frames_with_ik_states().map(collected).eq(properties.iter().cloned()));
+            assert!(take.property_frames_with_ik_states().rev().map(collected).eq(properties.iter().rev().cloned()));
+        }
+    }
+}
+
+/// Numbers that follow from a seed.
+struct Random(u32);
+
+impl Random {
+    fn below(&mut self, limit: u32) -> usize {
+        self.0 ^= self.0 << 13;
+        self.0 ^= self.0 >> 17;
+        self.0 ^= self.0 << 5;
+        (self.0 % limit) as usize
+    }
+}
+
+/// A step of one of six kinds: from the front or from the back, to the next or over so many.
+fn step<T>(to_come: &mut impl DoubleEndedIterator<Item = T>, kind: usize, over: usize) -> Option<T> {
+    match kind {
+        0 | 1 => to_come.next(),
+        2 | 3 => to_come.next_back(),
+        4 => to_come.nth(over),
+        _ => to_come.nth_back(over),
+    }
+}
+
+/// Steps of all kinds, one after another until nothing is left and some more, give what they give over a list of the frames.
+#[test]
+fn steps_over_property_frames() {
+    for n in [0, 1, 2, 15, 16, 17, 31, 32, 33, 48, 49, 70] {
+        let properties = properties(n);
+        let file = with_properties(&properties);
+        let take = Take::open(&file).unwrap();
+        for seed in 1..200u32 {
+            let mut random = Random(seed.wrapping_mul(0x9E37_79B9));
+            let longest_jump = [1, 3, 17, 50][seed as usize % 4];
+            let (mut frames, mut with_states) = (take.property_frames(), take.property_frames_with_ik_states());
+            let mut expected = properties.iter().cloned();
+            let mut after_the_last = 0;
+            while after_the_last < 3 {
+                assert_eq!((frames.len(), frames.size_hint()), (expected.len(), expected.size_hint()));
+                assert_eq!((with_states.len(), with_states.size_hint()), (expected.len(), expected.size_hint()));
+                let (kind, over) = (random.below(6), random.below(longest_jump));
+                let property = step(&mut expected, kind, over);
+                assert_eq!(step(&mut frames, kind, over), property.as_ref().map(|(frame, _)| *frame), "seed {seed}");
+                let found = step(&mut with_states, kind, over).map(|(frame, states)| (frame, states.collect()));
+                assert_eq!(found, property, "seed {seed}");
+                after_the_last += u32::from(property.is_none());
+            }
+        }
+    }
+}
+
+/// Frames that are skipped, from both ends.
+#[test]
+fn jumps_over_property_frames() {
+    let properties = properties(70);
+    let file = with_properties(&properties);
+    let take = Take::open(&file).unwrap();
+    let frames = || properties.iter().map(|(frame, _)| *frame);
+    for k in (0..=72).chain([usize::MAX - 1, usize::MAX]) {
+        assert_eq!(take.property_frames().nth(k), frames().nth(k));
+        assert_eq!(take.property_frames().nth_back(k), frames().nth_back(k));
+        assert!(take.property_frames().skip(k).eq(frames().skip(k)));
+        assert!(take.property_frames().rev().skip(k).eq(frames().rev().skip(k)));
+        let step = k.max(1);
+        assert!(take.property_frames().step_by(step).eq(frames().step_by(step)));
+        assert!(take.property_frames().rev().step_by(step).eq(frames().rev().step_by(step)));
     }
 }
 

@@ -8,7 +8,7 @@
 #include "take.h"
 #include "vmd.h"
 
-enum { MOST_FRAMES = 2048 };
+enum { MOST_FRAMES = 2048, PER_PLACE = 16 };
 
 static const size_t record_sizes[SECTIONS] = {111, 23, 61, 28, 9, 9};
 
@@ -16,8 +16,9 @@ struct opening {
     uint32_t counts[SECTIONS];
     uint64_t places[SECTIONS];
     uint64_t totals[3]; /* VMD_TOTAL_.. */
-    size_t n_frames;
-    uint64_t frames[MOST_FRAMES]; /* where each property frame begins */
+    size_t n_frames, n_places;
+    uint64_t frames[MOST_FRAMES];              /* where each property frame begins */
+    uint64_t scratch[MOST_FRAMES / PER_PLACE]; /* where the first of each sixteen begins */
 };
 
 static inline uint64_t records_of(const struct opening *o)
@@ -64,12 +65,28 @@ static inline uint32_t expected_header(const uint8_t *file, size_t len, enum edi
     return 2;
 }
 
+/* Where the property frame at a place ends, after its IK states; 0 where it is not whole in the file. */
+static inline uint64_t property_end(const uint8_t *file, size_t len, uint64_t at)
+{
+    uint32_t states, j;
+    if (at > len || len - at < 9)
+        return 0;
+    states = u32_at(file + at + 5);
+    at += 9;
+    for (j = 0; j < states; j++) {
+        if (len - at < 21)
+            return 0;
+        at += 21;
+    }
+    return at;
+}
+
 /* The refusal, or 0 and the opening. */
 static inline uint32_t expected_opening(const uint8_t *file, size_t len, struct opening *o)
 {
     enum edition edition;
     uint32_t number = expected_header(file, len, &edition);
-    size_t at, s, i, j;
+    size_t at, s, i;
     memset(o, 0, sizeof *o);
     if (number != 0)
         return number;
@@ -96,22 +113,18 @@ static inline uint32_t expected_opening(const uint8_t *file, size_t len, struct 
             continue;
         }
         for (i = 0; i < count; i++) {
-            uint32_t states;
-            if (len - at < 9)
+            size_t end = property_end(file, len, at);
+            if (end == 0)
                 return 1;
             if (i == MOST_FRAMES) {
                 fprintf(stderr, "the test's own file has too many property frames\n");
                 exit(2);
             }
             o->frames[i] = at;
-            states = u32_at(file + at + 5);
-            at += 9;
-            for (j = 0; j < states; j++) {
-                if (len - at < 21)
-                    return 1;
-                at += 21;
-            }
-            o->totals[VMD_TOTAL_IK_STATES] += states;
+            if (i % PER_PLACE == 0)
+                o->scratch[o->n_places++] = at;
+            o->totals[VMD_TOTAL_IK_STATES] += u32_at(file + at + 5);
+            at = end;
         }
     }
     o->n_frames = o->counts[5];
@@ -138,17 +151,26 @@ static inline const uint8_t *expected_record(const struct view *v, int section, 
     return v->file + place + record_sizes[section] * i;
 }
 
+/* From its place of the scratch on, each frame walked over is whole in the file, and its own nine bytes are there. */
 static inline const uint8_t *expected_property(const struct view *v, size_t i)
 {
-    if (i >= v->counts[5] || i >= v->scratch_len || v->scratch[i] > v->len || v->len - v->scratch[i] < 9)
+    uint64_t at;
+    size_t walked;
+    if (i >= v->counts[5] || i / PER_PLACE >= v->scratch_len)
         return NULL;
-    return v->file + v->scratch[i];
+    at = v->scratch[i / PER_PLACE];
+    for (walked = 0; walked < i % PER_PLACE; walked++) {
+        at = property_end(v->file, v->len, at);
+        if (at == 0)
+            return NULL;
+    }
+    return at > v->len || v->len - at < 9 ? NULL : v->file + at;
 }
 
 static inline const uint8_t *expected_state(const struct view *v, size_t i, size_t j)
 {
     const uint8_t *frame = expected_property(v, i);
-    if (frame == NULL || j >= u32_at(frame + 5) || (v->len - v->scratch[i] - 9) / 21 <= j)
+    if (frame == NULL || j >= u32_at(frame + 5) || (size_t)(v->file + v->len - frame - 9) / 21 <= j)
         return NULL;
     return frame + 9 + 21 * j;
 }

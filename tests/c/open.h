@@ -30,22 +30,22 @@ static inline void open_with(const uint8_t *file, size_t len, size_t scratch_len
     expect_lent("places", &lent_places, o->places, sizeof o->places);
     expect_lent("totals", &lent_totals, o->totals, sizeof o->totals);
     expect_unwritten("before the scratch", lent_scratch.at - 64, 64);
-    if (o->n_frames > 0)
-        expect_bytes("scratch", scratch, o->frames, o->n_frames * sizeof *scratch);
-    if (scratch_len > o->n_frames)
-        expect_unwritten("further scratch places", scratch + o->n_frames, (scratch_len - o->n_frames) * sizeof *scratch);
+    if (o->n_places > 0)
+        expect_bytes("scratch", scratch, o->scratch, o->n_places * sizeof *scratch);
+    if (scratch_len > o->n_places)
+        expect_unwritten("further scratch places", scratch + o->n_places, (scratch_len - o->n_places) * sizeof *scratch);
 }
 
-/* Opens a file with scratch for just its frames, with more, with none and with one place less. */
+/* Opens a file with a scratch of just the places that it needs, of more, of none and of one less. */
 static inline uint32_t try_opening(const uint8_t *file, size_t len, struct opening *o)
 {
     uint32_t number = expected_opening(file, len, o);
-    open_with(file, len, o->n_frames, number, o);
-    open_with(file, len, o->n_frames + 5, number, o);
-    if (number == VMD_OK && o->n_frames > 0) {
-        open_with(file, len, 0, VMD_SCRATCH_TOO_SHORT, o);
-        open_with(file, len, o->n_frames - 1, VMD_SCRATCH_TOO_SHORT, o);
-    }
+    uint32_t without = number == VMD_OK && o->n_places > 0 ? VMD_SCRATCH_TOO_SHORT : number;
+    open_with(file, len, o->n_places, number, o);
+    open_with(file, len, o->n_places + 5, number, o);
+    open_with(file, len, 0, without, o);
+    if (o->n_places > 1)
+        open_with(file, len, o->n_places - 1, without, o);
     return number;
 }
 

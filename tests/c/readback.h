@@ -24,9 +24,9 @@ static inline void expect_words(const char *what, const uint32_t *got, const uin
 static inline void field_by_field(const struct take *t, const uint8_t *file, size_t len)
 {
     uint32_t counts[6], record[10], enabled;
-    uint64_t places[6], totals[3], scratch[MOST], part[2];
-    size_t i, j, s;
-    expect_number("parse_animation", vmd_parse_animation(file, len, scratch, t->counts[5], counts, places, totals), VMD_OK);
+    uint64_t places[6], totals[3], scratch[(MOST_PROPERTIES + 15) / 16], part[2];
+    size_t scratch_len = (t->counts[5] + 15) / 16, i, j, s;
+    expect_number("parse_animation", vmd_parse_animation(file, len, scratch, scratch_len, counts, places, totals), VMD_OK);
     for (s = 0; s < SECTIONS; s++)
         expect_number("count", counts[s], t->counts[s]);
     expect_number("IK states", totals[VMD_TOTAL_IK_STATES], states_of(t));
@@ -77,15 +77,15 @@ static inline void field_by_field(const struct take *t, const uint8_t *file, siz
     }
     for (i = 0; i < t->counts[5]; i++) {
         const struct property *r = &t->properties[i];
-        expect_number("property", vmd_property_frame(file, len, counts, places, scratch, t->counts[5], i, record), VMD_OK);
+        expect_number("property", vmd_property_frame(file, len, counts, places, scratch, scratch_len, i, record), VMD_OK);
         expect_number("property's frame", record[0], r->frame);
         expect_number("property's visible", record[1], r->visible != 0);
         expect_number("property's IK count", record[2], r->n_states);
         for (j = 0; j < r->n_states; j++) {
-            expect_number("IK state", vmd_ik_state(file, len, counts, places, scratch, t->counts[5], i, j, &enabled),
+            expect_number("IK state", vmd_ik_state(file, len, counts, places, scratch, scratch_len, i, j, &enabled),
                           VMD_OK);
             expect_number("IK enabled", enabled, r->states[j].enabled != 0);
-            vmd_ik_name(file, len, counts, places, scratch, t->counts[5], i, j, part);
+            vmd_ik_name(file, len, counts, places, scratch, scratch_len, i, j, part);
             expect_name("IK name", file, part, &r->states[j].name);
         }
     }

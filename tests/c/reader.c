@@ -1,33 +1,16 @@
 /* Opening, records by number, names and interpolation bytes, through the C interface. */
 #include "check.h"
 #include "expect.h"
+#include "fetch.h"
 #include "open.h"
 #include "readback.h"
 #include "vmd.h"
 
 #include <math.h>
 
-static struct fence lent_slot, lent_values;
+static struct fence lent_values;
 
 /* ---- fetching: every call with one number, against the record that the layout has at the place */
-
-/* The slot of a call that fetches: what it must have after the answer. */
-static void expect_fetched(const char *what, uint32_t got, const uint8_t *record, const void *expected, size_t n)
-{
-    expect_number(what, got, record == NULL ? VMD_OUTSIDE : VMD_OK);
-    if (record == NULL)
-        expect_lent_unwritten(what, &lent_slot);
-    else
-        expect_lent(what, &lent_slot, expected, n);
-}
-
-static void expect_part_slot(const char *what, const uint64_t expected[2])
-{
-    expect_lent(what, &lent_slot, expected, 2 * sizeof *expected);
-}
-
-#define VIEW(v) (v)->file, (v)->len, (v)->counts, (v)->places
-#define SCRATCH(v) (v)->scratch, (v)->scratch_len
 
 static void fetch_bone(const struct view *v, size_t i)
 {
@@ -123,31 +106,6 @@ static void fetch_self_shadow(const struct view *v, size_t i)
                    record, sizeof record);
 }
 
-static void fetch_property(const struct view *v, size_t i)
-{
-    const uint8_t *r = expected_property(v, i);
-    uint32_t record[3] = {0};
-    if (r != NULL) {
-        record[0] = u32_at(r);
-        record[1] = r[4] != 0;
-        record[2] = u32_at(r + 5);
-    }
-    expect_fetched("property_frame", vmd_property_frame(VIEW(v), SCRATCH(v), i, lend_unwritten(&lent_slot, sizeof record)),
-                   r, record, sizeof record);
-}
-
-static void fetch_state(const struct view *v, size_t i, size_t j)
-{
-    const uint8_t *r = expected_state(v, i, j);
-    uint32_t enabled = r != NULL && r[20] != 0;
-    uint64_t part[2];
-    expect_fetched("ik_state", vmd_ik_state(VIEW(v), SCRATCH(v), i, j, lend_unwritten(&lent_slot, sizeof enabled)), r,
-                   &enabled, sizeof enabled);
-    expected_name(v, r, 20, part);
-    vmd_ik_name(VIEW(v), SCRATCH(v), i, j, lend_unwritten(&lent_slot, sizeof part));
-    expect_part_slot("ik_name", part);
-}
-
 /* Numbers far above every count; the products with a record's size wrap, and low halves are numbers of records. */
 static const size_t far_numbers[] = {
     100, 0xFFFFFFFF, 0x100000000, 0x100000001, SIZE_MAX / 111 + 1, SIZE_MAX / 23 + 1, SIZE_MAX / 21 + 1, SIZE_MAX / 9 + 1,
@@ -164,14 +122,8 @@ static size_t number_to_try(size_t k)
 static void try_fetches(const uint8_t *file, size_t len, const uint32_t counts[6], const uint64_t places[6],
                         const uint64_t *scratch, size_t scratch_len)
 {
-    struct view v;
+    struct view v = lend_view(file, len, counts, places, scratch, scratch_len);
     size_t k, l;
-    v.file = lend(&lent_file, file, len);
-    v.len = len;
-    v.counts = lend(&lent_counts, counts, 6 * sizeof *counts);
-    v.places = lend(&lent_places, places, 6 * sizeof *places);
-    v.scratch = lend(&lent_scratch, scratch, scratch_len * sizeof *scratch);
-    v.scratch_len = scratch_len;
     for (k = 0; k < NUMBERS; k++) {
         size_t i = number_to_try(k);
         fetch_bone(&v, i);
@@ -183,10 +135,7 @@ static void try_fetches(const uint8_t *file, size_t len, const uint32_t counts[6
         for (l = 0; l < NUMBERS; l++)
             fetch_state(&v, i, number_to_try(l));
     }
-    expect_lent("file", &lent_file, file, len);
-    expect_lent("counts", &lent_counts, counts, 6 * sizeof *counts);
-    expect_lent("places", &lent_places, places, 6 * sizeof *places);
-    expect_lent("scratch", &lent_scratch, scratch, scratch_len * sizeof *scratch);
+    expect_view(file, len, counts, places, scratch, scratch_len);
 }
 
 static void try_model_name(const uint8_t *file, size_t len)
@@ -210,7 +159,7 @@ static uint32_t try_file(const uint8_t *file, size_t len)
     uint32_t number = try_opening(file, len, &o);
     try_model_name(file, len);
     if (number == VMD_OK)
-        try_fetches(file, len, o.counts, o.places, o.frames, o.n_frames);
+        try_fetches(file, len, o.counts, o.places, o.scratch, o.n_places);
     return number;
 }
 
@@ -342,18 +291,18 @@ static void flags(void)
         struct take t = distinct_take(3, 0, 0, 1, 0, 0, 2);
         struct bytes b;
         uint32_t counts[6], record[10], enabled = 7;
-        uint64_t places[6], totals[3], scratch[2];
+        uint64_t places[6], totals[3], scratch[1];
         trial("flag byte %u", rows[k].byte);
         t.cameras[0].perspective = rows[k].byte;
         t.properties[1].visible = rows[k].byte;
         t.properties[1].states[0].enabled = rows[k].byte;
         encode(&b, &t, RAW);
-        vmd_parse_animation(b.at, b.len, scratch, 2, counts, places, totals);
+        vmd_parse_animation(b.at, b.len, scratch, 1, counts, places, totals);
         vmd_camera_frame(b.at, b.len, counts, places, 0, record);
         expect_number("perspective", record[9], rows[k].perspective);
-        vmd_property_frame(b.at, b.len, counts, places, scratch, 2, 1, record);
+        vmd_property_frame(b.at, b.len, counts, places, scratch, 1, 1, record);
         expect_number("visible", record[1], rows[k].flag);
-        vmd_ik_state(b.at, b.len, counts, places, scratch, 2, 1, 0, &enabled);
+        vmd_ik_state(b.at, b.len, counts, places, scratch, 1, 1, 0, &enabled);
         expect_number("enabled", enabled, rows[k].flag);
     }
 }
@@ -474,20 +423,18 @@ static void openings_of_another_file(void)
     expected_opening(l.at, l.len, &of_longer);
     expected_opening(s.at, s.len, &of_shorter);
     trial("a longer file with a shorter one's opening");
-    try_fetches(l.at, l.len, of_shorter.counts, of_shorter.places, of_shorter.frames, of_shorter.n_frames);
+    try_fetches(l.at, l.len, of_shorter.counts, of_shorter.places, of_shorter.scratch, of_shorter.n_places);
     trial("a shorter file with a longer one's opening");
-    try_fetches(s.at, s.len, of_longer.counts, of_longer.places, of_longer.frames, of_longer.n_frames);
+    try_fetches(s.at, s.len, of_longer.counts, of_longer.places, of_longer.scratch, of_longer.n_places);
     trial("a file with its opening and another one's scratch");
-    try_fetches(l.at, l.len, of_longer.counts, of_longer.places, of_shorter.frames, of_shorter.n_frames);
+    try_fetches(l.at, l.len, of_longer.counts, of_longer.places, of_shorter.scratch, of_shorter.n_places);
     trial("a file with its scratch and the opening of one with fewer property frames");
-    try_fetches(l.at, l.len, of_shorter.counts, of_shorter.places, of_longer.frames, of_longer.n_frames);
-    for (n = 0; n <= of_longer.n_frames; n++) {
-        trial("a scratch of %zu places for %zu property frames", n, of_longer.n_frames);
-        try_fetches(l.at, l.len, of_longer.counts, of_longer.places, of_longer.frames, n);
-    }
+    try_fetches(l.at, l.len, of_shorter.counts, of_shorter.places, of_longer.scratch, of_longer.n_places);
+    trial("a scratch of no places for %zu property frames", of_longer.n_frames);
+    try_fetches(l.at, l.len, of_longer.counts, of_longer.places, of_longer.scratch, 0);
     for (n = 0; n < l.len; n++) {
         trial("the first %zu bytes of a file with its opening", n);
-        try_fetches(l.at, n, of_longer.counts, of_longer.places, of_longer.frames, of_longer.n_frames);
+        try_fetches(l.at, n, of_longer.counts, of_longer.places, of_longer.scratch, of_longer.n_places);
     }
 }
 
@@ -524,10 +471,9 @@ static void places_anywhere(void)
             moved.places[s] = near_end[k];
             moved.counts[s] = 0xFFFFFFFF;
         }
-        for (s = 0; s < o.n_frames; s++)
-            moved.frames[s] = near_end[(k + s) % n];
+        moved.scratch[0] = near_end[k];
         trial("all places %llu, all counts 4,294,967,295", (unsigned long long)near_end[k]);
-        try_fetches(b.at, b.len, moved.counts, moved.places, moved.frames, moved.n_frames);
+        try_fetches(b.at, b.len, moved.counts, moved.places, moved.scratch, moved.n_places);
     }
 }
 
@@ -543,12 +489,7 @@ static void many_records(enum edition edition)
     trial("60 times the records of a take, %s edition", editions[edition].name);
     expect_number("refusal", try_opening(b.at, b.len, &o), VMD_OK);
     expect_number("bones", o.counts[0], 300);
-    v.file = lend(&lent_file, b.at, b.len);
-    v.len = b.len;
-    v.counts = o.counts;
-    v.places = o.places;
-    v.scratch = o.frames;
-    v.scratch_len = o.n_frames;
+    v = lend_view(b.at, b.len, o.counts, o.places, o.scratch, o.n_places);
     for (i = 0; i <= 480; i++) {
         fetch_bone(&v, i);
         fetch_morph(&v, i);
@@ -559,7 +500,7 @@ static void many_records(enum edition edition)
         for (j = 0; j < 5; j++)
             fetch_state(&v, i, j);
     }
-    expect_lent("file", &lent_file, b.at, b.len);
+    expect_view(b.at, b.len, o.counts, o.places, o.scratch, o.n_places);
 }
 
 /* ---- the older edition */
@@ -644,12 +585,12 @@ static void try_widened(const struct bytes *older, struct opening *o)
     number = try_opening(newer.at, newer.len, o);
     for (s = 0; s < SECTIONS; s++)
         o->places[s] -= NARROWER;
-    for (i = 0; i < o->n_frames; i++)
-        o->frames[i] -= NARROWER;
-    open_with(older->at, older->len, o->n_frames, number, o);
-    open_with(older->at, older->len, o->n_frames + 2, number, o);
+    for (i = 0; i < o->n_places; i++)
+        o->scratch[i] -= NARROWER;
+    open_with(older->at, older->len, o->n_places, number, o);
+    open_with(older->at, older->len, o->n_places + 2, number, o);
     if (number == VMD_OK)
-        try_fetches(older->at, older->len, o->counts, o->places, o->frames, o->n_frames);
+        try_fetches(older->at, older->len, o->counts, o->places, o->scratch, o->n_places);
 }
 
 /* Cut anywhere after the header: sections are whole, emptied and missing. And of more records than one byte can count. */
@@ -682,9 +623,9 @@ static void openings_of_the_other_edition(void)
     expected_opening(older.at, older.len, &of_older);
     expected_opening(newer.at, newer.len, &of_newer);
     trial("an older file with its widened file's opening");
-    try_fetches(older.at, older.len, of_newer.counts, of_newer.places, of_newer.frames, of_newer.n_frames);
+    try_fetches(older.at, older.len, of_newer.counts, of_newer.places, of_newer.scratch, of_newer.n_places);
     trial("a widened file with the older one's opening");
-    try_fetches(newer.at, newer.len, of_older.counts, of_older.places, of_older.frames, of_older.n_frames);
+    try_fetches(newer.at, newer.len, of_older.counts, of_older.places, of_older.scratch, of_older.n_places);
 }
 
 /* A slice of no elements is not looked at: its pointer may be null, or lead where nothing can be read. */
@@ -704,7 +645,10 @@ static void slices_of_no_elements(void)
     expect_number("bone_frame", vmd_bone_frame(closed, 0, counts, places, 0, record), VMD_OUTSIDE);
     counts[5] = 1;
     expect_number("property_frame", vmd_property_frame(b.at, b.len, counts, places, NULL, 0, 0, record), VMD_OUTSIDE);
+    expect_number("property_frame_at", vmd_property_frame_at(closed, 0, 0, record, &part[0]), VMD_OUTSIDE);
+    expect_number("property_frame_at", vmd_property_frame_at(NULL, 0, 0, record, &part[0]), VMD_OUTSIDE);
     expect_number("slot", record[0] * 100 + record[1] * 10 + record[2], 123);
+    expect_number("next", part[0], 7);
     vmd_model_name(closed, 0, part);
     expect_number("model name", part[0] + part[1], 0);
 }

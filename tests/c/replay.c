@@ -124,13 +124,12 @@ struct opened {
     size_t len;
     uint32_t counts[6];
     uint64_t places[6], totals[3], *scratch;
+    size_t scratch_len;
 };
-
-enum { PLACES = 1024 };
 
 #define FILE_OF(o) (o)->file, (o)->len
 #define OPENING(o) FILE_OF(o), (o)->counts, (o)->places
-#define SCRATCHED(o) OPENING(o), (o)->scratch, PLACES
+#define SCRATCHED(o) OPENING(o), (o)->scratch, (o)->scratch_len
 
 static void digest_part(const struct opened *o, const uint64_t part[2])
 {
@@ -239,8 +238,9 @@ static uint32_t opened(const struct recorded *r)
     uint32_t answer;
     o.file = lend(&lent[0], f->at, f->len);
     o.len = f->len;
-    o.scratch = lend_unwritten(&lent_scratch, PLACES * sizeof *o.scratch);
-    answer = vmd_parse_animation(FILE_OF(&o), o.scratch, PLACES, o.counts, o.places, o.totals);
+    o.scratch_len = (f->len / VMD_PROPERTY_SIZE + 15) / 16; /* enough for any file of this length */
+    o.scratch = lend_unwritten(&lent_scratch, o.scratch_len * sizeof *o.scratch);
+    answer = vmd_parse_animation(FILE_OF(&o), o.scratch, o.scratch_len, o.counts, o.places, o.totals);
     if (answer == VMD_OK)
         digest_take(&o);
     expect_lent("file", &lent[0], f->at, f->len);

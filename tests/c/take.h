@@ -59,7 +59,8 @@ static inline uint32_t u32_at(const uint8_t *at)
 
 /* ---- takes */
 
-enum { SECTIONS = 6, MOST = 12, MOST_STATES = 4 };
+/* Property frames have a scratch place for each sixteen of them, so a take has room for more of them than of others. */
+enum { SECTIONS = 6, MOST = 12, MOST_PROPERTIES = 72, MOST_STATES = 4 };
 
 struct name {
     uint8_t at[20];
@@ -114,7 +115,7 @@ struct take {
     struct camera cameras[MOST];
     struct light lights[MOST];
     struct self_shadow self_shadows[MOST];
-    struct property properties[MOST];
+    struct property properties[MOST_PROPERTIES];
 };
 
 static inline struct name named(const char *text)
@@ -162,7 +163,7 @@ static inline struct take joined(const struct take *first, const struct take *se
         t.model = second->model;
     for (s = 0; s < SECTIONS; s++) {
         t.counts[s] += second->counts[s];
-        if (t.counts[s] > MOST) {
+        if (t.counts[s] > (s == 5 ? MOST_PROPERTIES : MOST)) {
             fprintf(stderr, "the test's own take is too long\n");
             exit(2);
         }

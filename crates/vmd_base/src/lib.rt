@@ -20,6 +20,9 @@ pub const MODEL_WIDTH: usize = 20;
 // The same in the older edition.
 const OLDER_MODEL_WIDTH: usize = 10;
 
+// A place of the scratch is that of the first of so many property frames (02 f).
+pub const FRAMES_PER_PLACE: usize = 16;
+
 pub const VMD_MAGIC: [u8; MAGIC_SIZE] = *b"Vocaloid Motion Data 0002\0\0\0\0\0";
 
 pub const OLDER_MAGIC: [u8; MAGIC_SIZE] = *b"Vocaloid Motion Data file\0\0\0\0\0";

@@ -8,7 +8,7 @@ use lib.ListN.{length}
 use Rattle.vmd_format.specs.Answer.{Answer, given}
 use Rattle.vmd_format.specs.Read.{Manner}
 use Rattle.vmd_format.specs.Take.{Take}
-use Rattle.vmd_format.specs.Opening.{Opening, open-file, scratch-after}
+use Rattle.vmd_format.specs.Opening.{places-needed, Opening, open-file, scratch-after}
 use Rattle.vmd_format.specs.OpeningLaws.{take-opens}
 use Rattle.vmd_format.specs.FetchLaws.{Figures, own-records}
 use Rattle.vmd_format.specs.Join.{join}
@@ -31,8 +31,8 @@ pub record ReadBack (m : Manner) (x : Answer (List ℕ)) (scratch : List ℕ) (t
   pub calls : Calls file opening (scratch-after m file scratch) t
 
 module _ (m : Manner) where
-  -- a file that is accepted, with scratch enough: a place for each property frame of the take
-  reads-back : {x : Answer (List ℕ)} {t : Take} (scratch : List ℕ) → Reads m x t → length (t .properties) ≤ length scratch → ReadBack m x scratch t
+  -- a file that is accepted, with scratch enough: a place for each sixteen property frames of the take, or what is left of them
+  reads-back : {x : Answer (List ℕ)} {t : Take} (scratch : List ℕ) → Reads m x t → places-needed (length (t .properties)) ≤ length scratch → ReadBack m x scratch t
   reads-back {x} {t} scratch r n =
       let o = take-opens m (r .file) t (length scratch) (r .accepted .reads) n in
       record {
@@ -45,17 +45,17 @@ module _ (m : Manner) where
       }
 
   pub export-reads-back : {s : List ℕ} {t : Take} (out scratch : List ℕ) → Accepted m s t → Enough t out
-      → length (t .properties) ≤ length scratch → ReadBack m (exported m s out) scratch t
+      → places-needed (length (t .properties)) ≤ length scratch → ReadBack m (exported m s out) scratch t
   export-reads-back out scratch h n = reads-back scratch (export-back m out h n)
 
   pub older-reads-back : {s : List ℕ} {t : Take} (out scratch : List ℕ) → Accepted m s t → length (t .model) ≤ 10 → OlderEnough t out
-      → length (t .properties) ≤ length scratch → ReadBack m (converted m s out) scratch t
+      → places-needed (length (t .properties)) ≤ length scratch → ReadBack m (converted m s out) scratch t
   older-reads-back out scratch h k n = reads-back scratch (converted-back m h k out n)
 
   pub join-reads-back : {a b : List ℕ} {t u : Take} (out scratch : List ℕ) → Accepted m a t → Accepted m b u → Fit t u → Enough (join t u) out
-      → length (join t u .properties) ≤ length scratch → ReadBack m (joined m a b out) scratch (join t u)
+      → places-needed (length (join t u .properties)) ≤ length scratch → ReadBack m (joined m a b out) scratch (join t u)
   join-reads-back out scratch h k f n = reads-back scratch (join-back m out h k f n)
 
   pub build-reads-back : (x : Slices) (out scratch : List ℕ) → Typed x → (n : ℕ) → built-answer x out ≡ given n
-      → length (take-of-parts (parts x) .properties) ≤ length scratch → ReadBack m (built-file x out) scratch (take-of-parts (parts x))
+      → places-needed (length (take-of-parts (parts x) .properties)) ≤ length scratch → ReadBack m (built-file x out) scratch (take-of-parts (parts x))
   build-reads-back x out scratch h n e = reads-back scratch (build-back m x out h n e)

@@ -12,6 +12,7 @@ use vmd_reader::VmdMorphAnswer;
 use vmd_reader::VmdOpened;
 use vmd_reader::VmdOpening;
 use vmd_reader::VmdPropertyAnswer;
+use vmd_reader::VmdPropertyStep;
 use vmd_reader::VmdSelfShadowAnswer;
 use vmd_scan::VmdSections;
 use vmd_season::VmdSeason;
@@ -27,7 +28,7 @@ ghost use Rattle.vmd_format.specs.Answer.{map-answer, fitted, left};
 ghost use Rattle.vmd_format.specs.Records.{bone, morph, camera, light, self-shadow};
 ghost use Rattle.vmd_format.specs.Read.{lenient};
 ghost use Rattle.vmd_format.specs.Opening.{open-file, scratch-after};
-ghost use Rattle.vmd_format.specs.Fetch.{record-place, fetch, or-empty, model-of, fetch-property, fetch-ik-state};
+ghost use Rattle.vmd_format.specs.Fetch.{record-place, fetch, or-empty, model-of, fetch-property, step-property, fetch-ik-state};
 ghost use Rattle.vmd_format.specs.Parts.{build};
 ghost use Rattle.vmd_places.specs.Meaning.{ik-place};
 ghost use Rattle.vmd_places.specs.Parts.{file-part, part-in};
@@ -313,6 +314,29 @@ pub extern "C" fn vmd_property_frame(
         VmdPropertyAnswer::Found(x) => {
             let visible = wide(vmd_bytes::flag_to_byte(x.visible));
             *fields = [x.frame, visible, x.ik_count];
+            0
+        }
+    }
+}
+
+#[no_mangle]
+pub extern "C" fn vmd_property_frame_at(
+    file: &[u8],
+    place: u64,
+    fields: &mut [u32; 3],
+    next: &mut u64,
+) -> u32
+    ensures { λ r. ⌜ (let answer = step-property place (now (file .entry)) in
+        (r ≡ status answer)
+        × (now (fields .exit) ≡ slot-after (now (fields .entry)) (λ x. property-words (x .head)) answer)
+        × (now (next .exit) ≡ slot-after (now (next .entry)) (λ x. x .next) answer)) ⌝ }
+{
+    match vmd_reader::property_frame_at(file, place as usize) {
+        VmdPropertyStep::Refused(k) => k.number(),
+        VmdPropertyStep::Found { frame, next: after } => {
+            let visible = wide(vmd_bytes::flag_to_byte(frame.visible));
+            *fields = [frame.frame, visible, frame.ik_count];
+            *next = after as u64;
             0
         }
     }

@@ -1,6 +1,6 @@
 -- Files of the older edition (02 e): how long a model name is, that all other files read as before, and that an older file reads
 -- as its widened one.
-use Prim.Native.Nat.{ℕ, zero, suc, _+_, _*_, _-_, _≤_}
+use Prim.Native.Nat.{ℕ, zero, suc, _+_, _*_, _-_, _≤_, _<_}
 use mathlib.Core.Path.{_≡_, refl, ap, sym, _∙_}
 use mathlib.Core.Bool.{Bool, true, false}
 use mathlib.Core.List.{List, [], _∷_, _++_, map, append-assoc}
@@ -17,11 +17,12 @@ use Rattle.vmd_format.specs.Records.{Property}
 use Rattle.vmd_format.specs.Read.{Step, refused, got, Reader, bind, Section, Manner}
 use Rattle.vmd_format.specs.Take.{Take, File, take-of, Edition, newer, older, magic, older-magic, magic-of, model-width, same, edition-if, edition, model-if, magic-if, header-if, header, sections, read-file, read-take}
 use Rattle.vmd_format.specs.TakeLaws.{Begun, begun}
-use Rattle.vmd_format.specs.Opening.{positions, Extent, Scan, Opening, extent-of, scan-of, opening-of, opened, open-file, scratch-if, scratch-of, scratch-after}
+use Rattle.vmd_format.specs.Opening.{positions, places-needed, sixteenths, sixteenth-positions, Extent, Scan, Opening, extent-of, scan-of, opening-of, opened, open-file, scratch-if, scratch-of, scratch-after}
 use Rattle.vmd_format.specs.Fetch.{model-in, model-of}
 use Rattle.vmd_format.specs.ScanLaws.{header-of, file-in, Agrees, Matches, file-agrees}
 use Rattle.vmd_format.specs.Places.{scan-file}
 use Rattle.vmd_format.specs.PlacesLaws.{section-in}
+use Rattle.vmd_format.specs.OpeningLaws.{positions-length, sixteenth-length}
 use Rattle.vmd_format.specs.ExportLaws.{take-in, take-by-places}
 
 -- ---- model names
@@ -230,10 +231,23 @@ positions-later p (f ∷ l) =
     let e : 10 + p + 9 + 21 * length (f .ik-states) ≡ 10 + (p + 9 + 21 * length (f .ik-states)) = omega arith in
     ap (λ r. (10 + p) ∷ r) (rw e (positions-later (p + 9 + 21 * length (f .ik-states)) l))
 
-positions-length : (p : ℕ) (l : List Property) → length (positions p l) ≡ length l
-unfolding positions
-positions-length p [] = refl
-positions-length p (f ∷ l) = ap suc (positions-length (p + 9 + 21 * length (f .ik-states)) l)
+drop-map : (f : ℕ → ℕ) (n : ℕ) (l : List ℕ) → drop n (map f l) ≡ map f (drop n l)
+drop-map f zero l = refl
+drop-map f (suc n) [] = refl
+drop-map f (suc n) (a ∷ l) = drop-map f n l
+
+-- every sixteenth of a mapped list, where the list has them
+sixteenths-map : (f : ℕ → ℕ) (n : ℕ) (l : List ℕ) → 16 * n < length l + 16 → sixteenths n (map f l) ≡ map f (sixteenths n l)
+unfolding sixteenths
+sixteenths-map f zero l h = refl
+sixteenths-map f (suc n) [] h = absurd (omega arith)
+sixteenths-map f (suc n) (a ∷ l) h =
+    rw (drop-map f 15 l) (ap (λ r. f a ∷ r) (sixteenths-map f n (drop 15 l) (omega (arith, length-drop 15 l))))
+
+sixteenth-later : (p : ℕ) (l : List Property) → sixteenth-positions (10 + p) l ≡ map (λ n. 10 + n) (sixteenth-positions p l)
+unfolding sixteenth-positions places-needed
+sixteenth-later p l =
+    rw (positions-later p l) (sixteenths-map (λ n. 10 + n) (places-needed (length l)) (positions p l) (omega (arith, positions-length p l)))
 
 module _ (m : Manner) (s : List ℕ) (q : edition s ≡ given older) where
   -- opening: the same refusal, or the same counts, IK states and frames, and places that are 10 more
@@ -251,28 +265,29 @@ module _ (m : Manner) (s : List ℕ) (q : edition s ≡ given older) where
       go (refused k) y e a = refl
       go (got f r) (declined k) e a = absurd a
       go (got f r) (given x) e a =
-          given-later f (leb (length (f .properties .items)) places) (scan-shifts s (widened s) f x (widened-length s (read-long s q m f r e)) (a .1))
+          given-later f (leb (places-needed (length (f .properties .items))) places) (scan-shifts s (widened s) f x (widened-length s (read-long s q m f r e)) (a .1))
 
   -- the scratch: each position that opening writes is 10 more
   pub scratch-widened : (scratch : List ℕ) (o : Opening) → open-file m s (length scratch) ≡ given o
       → scratch-after m (widened s) scratch
-      ≡ map (λ n. 10 + n) (take (o .scan .properties .count) (scratch-after m s scratch)) ++ drop (o .scan .properties .count) scratch
+      ≡ map (λ n. 10 + n) (take (places-needed (o .scan .properties .count)) (scratch-after m s scratch))
+      ++ drop (places-needed (o .scan .properties .count)) scratch
   unfolding open-file opened unless opening-of scan-of extent-of scratch-after scratch-of scratch-if
   scratch-widened scratch o h = rw (file-widened s q m) (go (read-file m s) (scan-file m s) refl (file-agrees m s) h)
     where
       n : ℕ
-      n = o .scan .properties .count
+      n = places-needed (o .scan .properties .count)
 
       two : (f : File) (p w : ℕ) (b : Bool) → w ≡ 10 + p
           → unless b scratch-too-short (given (opening-of s f)) ≡ given o
-          → scratch-if b (positions w (f .properties .items)) scratch
-          ≡ map (λ n. 10 + n) (take n (scratch-if b (positions p (f .properties .items)) scratch)) ++ drop n scratch
+          → scratch-if b (sixteenth-positions w (f .properties .items)) scratch
+          ≡ map (λ n. 10 + n) (take n (scratch-if b (sixteenth-positions p (f .properties .items)) scratch)) ++ drop n scratch
       two f p w true e g =
           let r : opening-of s f ≡ o = cc in
-          let c : length (f .properties .items) ≡ n = ap (λ x. x .scan .properties .count) r in
-          let l = positions-length p (f .properties .items) ∙ c in
-          let k = positions-length (10 + p) (f .properties .items) ∙ c in
-          rw (e, k, take-at (positions p (f .properties .items)) _ n l, positions-later p (f .properties .items))
+          let c : places-needed (length (f .properties .items)) ≡ n = ap (λ x. places-needed (x .scan .properties .count)) r in
+          let l = sixteenth-length p (f .properties .items) ∙ c in
+          let k = sixteenth-length (10 + p) (f .properties .items) ∙ c in
+          rw (e, k, take-at (sixteenth-positions p (f .properties .items)) _ n l, sixteenth-later p (f .properties .items))
       two f p w false e g = let z : _≡_ {A = ℕ} 0 1 = cc in absurd (omega arith)
 
       go : (x : Step File) (y : Answer Scan) → read-file m s ≡ x → Matches s (model-of s) x y → opened s (length scratch) x ≡ given o
@@ -281,4 +296,4 @@ module _ (m : Manner) (s : List ℕ) (q : edition s ≡ given older) where
       go (got f r) (declined k) e a g = absurd a
       go (got f r) (given x) e a g =
           let w = scan-shifts s (widened s) f x (widened-length s (read-long s q m f r e)) (a .1) in
-          two f _ _ (leb (length (f .properties .items)) (length scratch)) (ap (λ y. y .properties .place) w) g
+          two f _ _ (leb (places-needed (length (f .properties .items))) (length scratch)) (ap (λ y. y .properties .place) w) g

@@ -1,7 +1,7 @@
--- Records by section and number: document 01, "Opening" and "records". Definitions only.
+-- Records by section and number: document 01, "Opening" and "records", and 02 f). Definitions only.
 -- "A fetch with an opening or scratch taken from another file gives the record that the layout reads at the place these
 -- name, or refusal 4; a scratch too short for the number, or a place whose sum would wrap, counts as outside the file."
-use Prim.Native.Nat.{ℕ, _+_, _*_}
+use Prim.Native.Nat.{ℕ, zero, suc, _+_, _*_, _/_, _%_}
 use mathlib.Core.Bool.{Bool, _&&_}
 use mathlib.Core.List.{List, []}
 use lib.ListN.{length, getD, drop}
@@ -43,10 +43,33 @@ pub record PropertyHead : Type 0 where
   pub visible : Bool
   pub ik-count : ℕ
 
--- where property frame i stands: the scratch names it, and its nine bytes are in the file
+-- the IK states of the property frame at a place: the count read there, and the bytes after it
+unfoldable pub ik-extent : List ℕ → ℕ → Extent
+ik-extent s at = record { count = u32 (drop (at + 5) s); place = at + 9 }
+
+-- where the property frame at a place ends, with its IK states
+unfoldable pub property-end : List ℕ → ℕ → ℕ
+property-end s at = ik-extent s at .place + ik-extent s at .count * 21
+
+-- the place of the next property frame, where all of this one is in the file
+unfoldable pub next-place : List ℕ → ℕ → Answer ℕ
+next-place s at = unless (leb (property-end s at) (length s)) outside (given (property-end s at))
+
+-- 02 f): "a fetch walks on from there", over n frames; "a walk that leaves the file is 4"
+unfoldable pub walk-frames : List ℕ → ℕ → ℕ → Answer ℕ
+walk-frames s zero at = given at
+walk-frames s (suc n) at = and-then (next-place s at) (walk-frames s n)
+
+-- a property frame at a place: its nine bytes are in the file
+unfoldable pub frame-place : List ℕ → ℕ → Answer ℕ
+frame-place s at = unless (leb (at + 9) (length s)) outside (given at)
+
+-- where property frame i stands: place i / 16 of the scratch is that of frame 16 (i / 16), and a walk leads on from it to frame
+-- i, "over at most 15 frames"
 unfoldable pub property-place : Extent → List ℕ → ℕ → List ℕ → Answer ℕ
 property-place p scratch i s =
-    unless (ltb i (p .count) && ltb i (length scratch) && leb (getD scratch i 0 + 9) (length s)) outside (given (getD scratch i 0))
+    unless (ltb i (p .count) && ltb (i / 16) (length scratch)) outside
+    (and-then (walk-frames s (i % 16) (getD scratch (i / 16) 0)) (frame-place s))
 
 unfoldable pub property-at : List ℕ → ℕ → PropertyHead
 property-at s at = record {
@@ -58,9 +81,14 @@ property-at s at = record {
 unfoldable pub fetch-property : Extent → List ℕ → ℕ → List ℕ → Answer PropertyHead
 fetch-property p scratch i s = map-answer (property-at s) (property-place p scratch i s)
 
--- the IK states of the property frame at a place: the count read there, and the bytes after it
-unfoldable pub ik-extent : List ℕ → ℕ → Extent
-ik-extent s at = record { count = u32 (drop (at + 5) s); place = at + 9 }
+-- a property frame, and the place of the next one
+pub record PropertyStep : Type 0 where
+  pub head : PropertyHead
+  pub next : ℕ
+
+-- the property frame at a place, all of it in the file, and the place of the next one
+unfoldable pub step-property : ℕ → List ℕ → Answer PropertyStep
+step-property at s = map-answer (λ next. record { head = property-at s at; next = next }) (next-place s at)
 
 -- IK state j of property frame i
 unfoldable pub fetch-ik-state : Extent → List ℕ → ℕ → ℕ → List ℕ → Answer IkState

@@ -1,27 +1,29 @@
--- With the file's own opening and scratch, a fetch gives the records of the take that the file says, number by number.
-use Prim.Native.Nat.{ℕ, zero, suc, _+_, _*_, _-_, _≤_, _<_}
+-- With the file's own opening and scratch, a fetch gives the records of the take that the file says, number by number; with
+-- another's, a walk that leaves the file is refused.
+use Prim.Native.Nat.{ℕ, zero, suc, _+_, _*_, _-_, _/_, _%_, _≤_, _<_}
 use mathlib.Core.Path.{_≡_, refl, ap, sym, _∙_, subst}
-use mathlib.Core.Bool.{Bool, true, false}
+use mathlib.Core.Bool.{Bool, true, false, _&&_}
 use mathlib.Core.List.{List, [], _∷_, _++_}
 use native.Mathlib.Omega.{arith}
 use native.Mathlib.Nat.{mul-le-mul-right, add-zero}
-use borrow.Author.Tests.{le-leb, leb-true, lt-ltb, le-ltb}
+use borrow.Author.Tests.{le-leb, lt-leb, leb-true, leb-false, lt-ltb, le-ltb}
 use lib.ListN.{length, getD, take, drop, length-append, length-drop, List·getD-append}
-use lib.Seq.{drop-drop, getD-drop, take-at}
-use lib.Dec.{leb}
+use lib.Seq.{drop-drop, getD-drop, getD-take, take-at}
+use lib.Dec.{leb, ltb}
 use Rattle.vmd_format.specs.Bytes.{u32}
 use Rattle.vmd_format.specs.Layout.{Layout, number, byte, flag, inverted, name, raw, _⊗_, as-record}
-use Rattle.vmd_format.specs.Refusal.{file-ends-early, scratch-too-short, outside}
+use Rattle.vmd_format.specs.Refusal.{scratch-too-short, outside}
 use Rattle.vmd_format.specs.Answer.{Answer, declined, given, and-then, map-answer, unless}
 use Rattle.vmd_format.specs.Records.{IkState, Property, bone, morph, camera, light, self-shadow, ik-state, property-head}
-use Rattle.vmd_format.specs.Read.{Step, refused, got, table, refuse, Manner}
+use Rattle.vmd_format.specs.Read.{Step, refused, got, table, Manner}
 use Rattle.vmd_format.specs.Take.{Take, File, take-of, read-file, answer, read-take}
-use Rattle.vmd_format.specs.Opening.{ik-total, smallest, largest, smallest-frame, largest-frame, positions, Extent, Scan, Opening, open-file, scratch-if, scratch-after}
-use Rattle.vmd_format.specs.Fetch.{record-place, fetch, or-empty, model-of, PropertyHead, property-place, property-at, fetch-property, ik-extent, fetch-ik-state}
-use Rattle.vmd_format.specs.Places.{Span, span, Walk, walk-on, walk, next-frame, frame-places, opening-at, open-scan, scan-file, scan-scratch}
-use Rattle.vmd_format.specs.PlacesLaws.{Holds, table-length, table-at, section-in, property-in, frames-in, Frame, frame-span}
+use Rattle.vmd_format.specs.Opening.{ik-total, smallest, largest, smallest-frame, largest-frame, positions, places-needed, sixteenth-positions, Extent, Scan, Opening, open-file, scratch-if, scratch-after}
+use Rattle.vmd_format.specs.Fetch.{record-place, fetch, or-empty, model-of, PropertyHead, ik-extent, property-end, next-place, walk-frames, frame-place, property-place, property-at, fetch-property, step-property, fetch-ik-state}
+use Rattle.vmd_format.specs.Places.{next-frame, Reaches, frame-end, sixteenth-places, opening-at, open-scan, scan-file, scan-scratch}
+use Rattle.vmd_format.specs.PlacesLaws.{table-length, table-at, section-in, property-in, frames-in}
 use Rattle.vmd_format.specs.ScanLaws.{frames-length, file-in, Inside, Agrees, Matches, file-agrees}
-use Rattle.vmd_format.specs.OpeningLaws.{file-frames, positions-places, open-by-places, scratch-by-places, agreed-total}
+use Rattle.vmd_format.specs.WalkLaws.{reaches-first, frame-end-on, reaches-split, walk-passed}
+use Rattle.vmd_format.specs.OpeningLaws.{file-frames, place-holds, next-of, sixteenth-positions-places, open-by-places, scratch-by-places, agreed-total}
 
 -- ---- records of one size
 
@@ -73,33 +75,66 @@ module _ {A : Type 0} {K : Layout A} {p : Extent} {s : List ℕ} {l : List A} (h
 
 -- ---- property frames
 
-frames-at : (s : List ℕ) (n at i : ℕ) (d : Property) → i < n → getD (frames-in s n at) i d ≡ property-in s (getD (frame-places s n at) i 0)
-unfolding frames-in frame-places
+frames-at : (s : List ℕ) (n at i : ℕ) (d : Property) → i < n → getD (frames-in s n at) i d ≡ property-in s (frame-end s i at)
+unfolding frames-in frame-end
 frames-at s zero at i d h = absurd (omega arith)
 frames-at s (suc n) at zero d h = refl
 frames-at s (suc n) at (suc i) d h = frames-at s n (next-frame s at) i d (omega arith)
 
-pub places-length : (s : List ℕ) (n at : ℕ) → length (frame-places s n at) ≡ n
-unfolding frame-places
+pub places-length : (s : List ℕ) (n at : ℕ) → length (sixteenth-places s n at) ≡ n
+unfolding sixteenth-places
 places-length s zero at = refl
-places-length s (suc n) at = ap suc (places-length s n (next-frame s at))
+places-length s (suc n) at = ap suc (places-length s n (frame-end s 16 at))
 
--- each frame that the walk went over lies in the file, with its IK states
-pub frame-reaches : (s : List ℕ) (n at total : ℕ) (w : Walk) → walk s n at total ≡ given w
-    → (i : ℕ) → i < n → next-frame s (getD (frame-places s n at) i 0) ≤ length s
-unfolding walk walk-on frame-places
-frame-reaches s zero at total w e i h = absurd (omega arith)
-frame-reaches s (suc n) at total w e i h = go (leb (at + 5) (length s)) (span (refuse file-ends-early) 21 s (at + 5)) (frame-span s at) (frame-reaches s n) e i h
+-- place j is the place of frame 16 j
+places-at : (s : List ℕ) (n at j : ℕ) → j < n → getD (sixteenth-places s n at) j 0 ≡ frame-end s (16 * j) at
+unfolding sixteenth-places frame-end
+places-at s zero at j h = absurd (omega arith)
+places-at s (suc n) at zero h = refl
+places-at s (suc n) at (suc j) h =
+    let e : 16 + 16 * j ≡ 16 * suc j = omega arith in
+    places-at s n (frame-end s 16 at) j (omega arith) ∙ frame-end-on s 16 (16 * j) at ∙ rw e
+
+-- each of n frames lies in the file, with its IK states
+frame-reaches : (s : List ℕ) (n at : ℕ) → Reaches s n at → (i : ℕ) → i < n → next-frame s (frame-end s i at) ≤ length s
+frame-reaches s n at r i h =
+    let e : n ≡ i + (n - i) = omega arith in
+    reaches-first s (n - i) (frame-end s i at) (omega arith) (reaches-split s i (n - i) at (rw e at r) .1) .0
+
+-- the step over a frame
+pub next-reaches : (s : List ℕ) (at : ℕ) → next-frame s at ≤ length s → next-place s at ≡ given (next-frame s at)
+unfolding next-place property-end ik-extent next-frame unless
+next-reaches s at h = rw (le-leb (next-frame s at) (length s) h)
+
+pub next-leaves : (s : List ℕ) (at : ℕ) → length s < next-frame s at → next-place s at ≡ declined outside
+unfolding next-place property-end ik-extent next-frame unless
+next-leaves s at h = rw (lt-leb (next-frame s at) (length s) h)
+
+-- a walk over n frames that lie in the file, and "a walk that leaves the file is 4"
+walk-inside : (s : List ℕ) (n at : ℕ) → Reaches s n at → walk-frames s n at ≡ given (frame-end s n at)
+unfolding walk-frames frame-end and-then Reaches
+walk-inside s zero at r = refl
+walk-inside s (suc n) at r = rw (next-reaches s at (r .0)) (walk-inside s n (next-frame s at) (r .1))
+
+pub walk-leaves : (s : List ℕ) (n at : ℕ) → (Reaches s n at → ⊥) → walk-frames s n at ≡ declined outside
+unfolding walk-frames and-then Reaches
+walk-leaves s zero at h = absurd (h tt)
+walk-leaves s (suc n) at h = go (leb (next-frame s at) (length s)) refl (walk-leaves s n (next-frame s at))
   where
-    Rest : Type 0
-    Rest = (at total : ℕ) (w : Walk) → walk s n at total ≡ given w → (i : ℕ) → i < n → next-frame s (getD (frame-places s n at) i 0) ≤ length s
+    go : (b : Bool) → leb (next-frame s at) (length s) ≡ b → ((Reaches s n (next-frame s at) → ⊥) → walk-frames s n (next-frame s at) ≡ declined outside)
+        → and-then (next-place s at) (walk-frames s n) ≡ declined outside
+    go true e rest = let k = leb-true (next-frame s at) (length s) e in rw (next-reaches s at k) (rest (λ r. h (k, r)))
+    go false e rest = rw (next-leaves s at (leb-false (next-frame s at) (length s) e))
 
-    go : (b : Bool) (x : Answer Span) → Holds (Frame s at) x → Rest → walk-on b x (walk s n) total ≡ given w
-        → (i : ℕ) → i < suc n → next-frame s (getD (at ∷ frame-places s n (next-frame s at)) i 0) ≤ length s
-    go true (declined k) f r q i h = let z : _≡_ {A = ℕ} 0 1 = cc in absurd (omega arith)
-    go true (given x) f r q zero h = omega (arith, f .next, f .ends)
-    go true (given x) f r q (suc i) h = r (next-frame s at) (total + x .count) w (rw (f .next) at q) i (omega arith)
-    go false x f r q i h = let z : _≡_ {A = ℕ} 0 1 = cc in absurd (omega arith)
+-- so is a fetch with any opening and scratch
+pub fetch-leaves : (p : Extent) (scratch : List ℕ) (i : ℕ) (s : List ℕ) → (Reaches s (i % 16) (getD scratch (i / 16) 0) → ⊥)
+    → property-place p scratch i s ≡ declined outside
+unfolding property-place and-then unless
+fetch-leaves p scratch i s h = rw (walk-leaves s (i % 16) (getD scratch (i / 16) 0) h) (go (ltb i (p .count) && ltb (i / 16) (length scratch)))
+  where
+    go : (b : Bool) → _≡_ {A = Answer ℕ} (unless b outside (declined outside)) (declined outside)
+    go true = refl
+    go false = refl
 
 unfoldable pub head-of : Property → PropertyHead
 head-of p = record { frame = p .frame; visible = p .visible; ik-count = length (p .ik-states) }
@@ -120,49 +155,89 @@ pub record FetchesProperties (p : Extent) (scratch s : List ℕ) (l : List Prope
   pub past-state : (i j : ℕ) (d : Property) → i < length l → length (getD l i d .ik-states) ≤ j → fetch-ik-state p scratch i j s ≡ declined outside
   pub past-frame : (i j : ℕ) → length l ≤ i → fetch-ik-state p scratch i j s ≡ declined outside
 
-module _ (p : Extent) (s scratch : List ℕ) (w : Walk) (e : walk s (p .count) (p .place) 0 ≡ given w)
-    (room : p .count ≤ length scratch) (filled : (i : ℕ) → i < p .count → getD scratch i 0 ≡ getD (frame-places s (p .count) (p .place)) i 0) where
-  found : (i : ℕ) → i < p .count → property-place p scratch i s ≡ given (getD (frame-places s (p .count) (p .place)) i 0)
-  unfolding property-place unless next-frame
+module _ (p : Extent) (s scratch : List ℕ) (first : ℕ) (r : Reaches s (p .count) first)
+    (room : places-needed (p .count) ≤ length scratch)
+    (filled : (j : ℕ) → j < places-needed (p .count) → getD scratch j 0 ≡ frame-end s (16 * j) first) where
+  reaches : (i : ℕ) → i < p .count → next-frame s (frame-end s i first) ≤ length s
+  reaches i h = frame-reaches s (p .count) first r i h
+
+  -- from place i / 16 over i mod 16 frames
+  walked : (i : ℕ) → i < p .count → walk-frames s (i % 16) (getD scratch (i / 16) 0) ≡ given (frame-end s i first)
+  unfolding places-needed
+  walked i h =
+      let e : 16 * (i / 16) + i % 16 ≡ i = omega arith in
+      let n : p .count ≡ 16 * (i / 16) + (i % 16 + (p .count - i)) = omega arith in
+      let over = reaches-split s (i % 16) (p .count - i) _ (reaches-split s (16 * (i / 16)) (i % 16 + (p .count - i)) first (rw n at r) .1) .0 in
+      rw (filled (i / 16) (omega arith), walk-inside s (i % 16) _ over, frame-end-on s (16 * (i / 16)) (i % 16) first, e)
+
+  found : (i : ℕ) → i < p .count → property-place p scratch i s ≡ given (frame-end s i first)
+  unfolding property-place frame-place and-then unless next-frame places-needed
   found i h =
       rw (
         lt-ltb i (p .count) h,
-        lt-ltb i (length scratch) (omega arith),
-        filled i h,
-        le-leb (getD (frame-places s (p .count) (p .place)) i 0 + 9) (length s) (omega (arith, frame-reaches s (p .count) (p .place) 0 w e i h)),
+        lt-ltb (i / 16) (length scratch) (omega (arith, room)),
+        walked i h,
+        le-leb (frame-end s i first + 9) (length s) (omega (arith, reaches i h)),
       )
 
   missing : (i : ℕ) → p .count ≤ i → property-place p scratch i s ≡ declined outside
   unfolding property-place unless
   missing i h = rw (le-ltb i (p .count) h)
 
-  states : (i j : ℕ) → i < p .count
-      → fetch-ik-state p scratch i j s ≡ fetch ik-state (ik-extent s (getD (frame-places s (p .count) (p .place)) i 0)) j s
+  states : (i j : ℕ) → i < p .count → fetch-ik-state p scratch i j s ≡ fetch ik-state (ik-extent s (frame-end s i first)) j s
   unfolding fetch-ik-state and-then
   states i j h = rw (found i h)
 
-  -- the frames of a walk, through a scratch that has their places
-  pub fetches-frames : FetchesProperties p scratch s (frames-in s (p .count) (p .place))
+  -- frames that lie in the file, through a scratch that has the place of every sixteenth
+  fetches-frames : FetchesProperties p scratch s (frames-in s (p .count) first)
   unfolding fetch-property map-answer fetch-ik-state and-then
   fetches-frames = record {
-    own = λ i d h. let k = below i h in rw (found i k, head-at, ← frames-at s (p .count) (p .place) i d k);
+    own = λ i d h. let k = below i h in rw (found i k, head-at, ← frames-at s (p .count) first i d k);
     past = λ i h. rw (missing i (above i h));
     own-state = λ i j d z h k.
         let b = below i h in
-        let q = frames-at s (p .count) (p .place) i d b in
-        states i j b ∙ rw q (fetches-states s _ (frame-reaches s (p .count) (p .place) 0 w e i b) .own j z (rw q at k));
+        let q = frames-at s (p .count) first i d b in
+        states i j b ∙ rw q (fetches-states s _ (reaches i b) .own j z (rw q at k));
     past-state = λ i j d h k.
         let b = below i h in
-        let q = frames-at s (p .count) (p .place) i d b in
-        states i j b ∙ fetches-states s _ (frame-reaches s (p .count) (p .place) 0 w e i b) .past j (rw q at k);
+        let q = frames-at s (p .count) first i d b in
+        states i j b ∙ fetches-states s _ (reaches i b) .past j (rw q at k);
     past-frame = λ i j h. rw (missing i (above i h));
   }
     where
-      below : (i : ℕ) → i < length (frames-in s (p .count) (p .place)) → i < p .count
-      below i h = rw (frames-length s (p .count) (p .place)) at h
+      below : (i : ℕ) → i < length (frames-in s (p .count) first) → i < p .count
+      below i h = rw (frames-length s (p .count) first) at h
 
-      above : (i : ℕ) → length (frames-in s (p .count) (p .place)) ≤ i → p .count ≤ i
-      above i h = rw (frames-length s (p .count) (p .place)) at h
+      above : (i : ℕ) → length (frames-in s (p .count) first) ≤ i → p .count ≤ i
+      above i h = rw (frames-length s (p .count) first) at h
+
+-- ---- step after step
+
+-- the step over a frame at a place, and the fetches of the frame where its place alone is lent, whatever the section's place
+pub record Stepped (s : List ℕ) (at : ℕ) (p : Property) (next : ℕ) : Type 0 where
+  pub step : step-property at s ≡ given (record { head = head-of p; next = next })
+  pub alone : (place : ℕ) → FetchesProperties (record { count = 1; place = place }) (at ∷ []) s (p ∷ [])
+
+-- from a place on, one step after another gives the frames of a list
+abbrev pub Steps : List ℕ → ℕ → List Property → Type 0
+Steps s at [] = Unit {0}
+Steps s at (p ∷ l) = let next = at + 9 + 21 * length (p .ik-states) in Stepped s at p next × Steps s next l
+
+stepped : (s : List ℕ) (at : ℕ) → next-frame s at ≤ length s → Stepped s at (property-in s at) (next-frame s at)
+unfolding step-property map-answer frames-in Reaches places-needed frame-end
+stepped s at h = record {
+  step = rw (next-reaches s at h, head-at);
+  alone = λ place. fetches-frames (record { count = 1; place = place }) s (at ∷ []) at (h, tt) (omega arith) only;
+}
+  where
+    only : (j : ℕ) → j < places-needed 1 → getD (at ∷ []) j 0 ≡ frame-end s (16 * j) at
+    only zero k = refl
+    only (suc j) k = absurd (omega arith)
+
+steps : (s : List ℕ) (n at : ℕ) → Reaches s n at → Steps s at (frames-in s n at)
+unfolding Reaches frames-in
+steps s zero at r = tt
+steps s (suc n) at r = rw (next-of s at) (stepped s at (r .0), steps s n (next-frame s at) (r .1))
 
 -- ---- the file's own opening and scratch
 
@@ -188,18 +263,20 @@ pub record Own (s : List ℕ) (o : Opening) (scratch : List ℕ) (t : Take) : Ty
   pub properties : FetchesProperties (o .scan .properties) scratch s (t .properties)
   pub model : model-of s ≡ t .model
   pub figures : Figures o t
-  pub places : take (length (t .properties)) scratch ≡ positions (o .scan .properties .place) (t .properties)
+  pub steps : Steps s (o .scan .properties .place) (t .properties)
+  pub places : take (places-needed (length (t .properties))) scratch ≡ sixteenth-positions (o .scan .properties .place) (t .properties)
 
 own-file : (s scratch model : List ℕ) (x : Scan) → Inside s x → model-of s ≡ model
-    → x .ik-states ≡ ik-total (frames-in s (x .properties .count) (x .properties .place)) → x .properties .count ≤ length scratch
-    → Own s (opening-at s x)
-    (frame-places s (x .properties .count) (x .properties .place) ++ drop (length (frame-places s (x .properties .count) (x .properties .place))) scratch)
-    (take-of (file-in model s x))
+    → x .ik-states ≡ ik-total (frames-in s (x .properties .count) (x .properties .place)) → places-needed (x .properties .count) ≤ length scratch
+    → let q = sixteenth-places s (places-needed (x .properties .count)) (x .properties .place) in
+    Own s (opening-at s x) (q ++ drop (length q) scratch) (take-of (file-in model s x))
 unfolding take-of file-in section-in opening-at smallest-frame largest-frame bone morph camera light self-shadow number byte flag inverted name raw _⊗_ as-record
 own-file s scratch model x k e total room =
     let n = x .properties .count in
-    let q = frame-places s n (x .properties .place) in
-    let l : length q ≡ n = places-length s n (x .properties .place) in
+    let at = x .properties .place in
+    let q = sixteenth-places s (places-needed n) at in
+    let l : length q ≡ places-needed n = places-length s (places-needed n) at in
+    let reaches : Reaches s n at = walk-passed s n at 0 _ (k .walked) .reaches in
     record {
       bones = fetches-table bone (x .bones) s (k .bones .ends);
       morphs = fetches-table morph (x .morphs) s (k .morphs .ends);
@@ -207,9 +284,9 @@ own-file s scratch model x k e total room =
       lights = fetches-table light (x .lights) s (k .lights .ends);
       self-shadows = fetches-table self-shadow (x .self-shadows) s (k .self-shadows .ends);
       properties =
-          fetches-frames (x .properties) s (q ++ drop (length q) scratch) _ (k .walked)
+          fetches-frames (x .properties) s (q ++ drop (length q) scratch) at reaches
           (simp (length-append, length-drop) (omega arith))
-          (λ i h. List·getD-append q (drop (length q) scratch) 0 i (rw l h));
+          (λ j h. List·getD-append q (drop (length q) scratch) 0 j (rw l h) ∙ places-at s (places-needed n) at j h);
       model = e;
       figures = record {
         bones = sym (table-length bone (x .bones .count) (drop (x .bones .place) s));
@@ -217,13 +294,13 @@ own-file s scratch model x k e total room =
         cameras = sym (table-length camera (x .cameras .count) (drop (x .cameras .place) s));
         lights = sym (table-length light (x .lights .count) (drop (x .lights .place) s));
         self-shadows = sym (table-length self-shadow (x .self-shadows .count) (drop (x .self-shadows .place) s));
-        properties = sym (frames-length s n (x .properties .place));
+        properties = sym (frames-length s n at);
         ik-states = total;
         smallest = ap smallest (sym (file-frames model s x));
         largest = ap largest (sym (file-frames model s x));
       };
-      places =
-          rw (frames-length s n (x .properties .place), take-at q (drop (length q) scratch) n l) (sym (positions-places s n (x .properties .place)));
+      steps = steps s n at reaches;
+      places = rw (frames-length s n at, take-at q (drop (length q) scratch) (places-needed n) l) (sym (sixteenth-positions-places s n at));
     }
 
 -- "With the file's own opening and scratch, the calls for records, names and interpolation bytes return just these, and the
@@ -235,12 +312,12 @@ own-records m s scratch o t r h =
     rw (scratch-by-places m s scratch)
     (go (read-file m s) (scan-file m s) (file-agrees m s) r (rw (open-by-places m s (length scratch)) at h))
   where
-    agreed : (f : File) (x : Scan) → (f .model ≡ model-of s) × Agrees s f x → (b : Bool) → leb (x .properties .count) (length scratch) ≡ b
+    agreed : (f : File) (x : Scan) → (f .model ≡ model-of s) × Agrees s f x → (b : Bool) → leb (places-needed (x .properties .count)) (length scratch) ≡ b
         → given (take-of f) ≡ given t
         → unless b scratch-too-short (given (opening-at s x)) ≡ given o
-        → Own s o (scratch-if b (frame-places s (x .properties .count) (x .properties .place)) scratch) t
+        → Own s o (scratch-if b (sixteenth-places s (places-needed (x .properties .count)) (x .properties .place)) scratch) t
     agreed f x a true e p q =
-        let places = frame-places s (x .properties .count) (x .properties .place) in
+        let places = sixteenth-places s (places-needed (x .properties .count)) (x .properties .place) in
         let u : take-of f ≡ t = cc in
         let v : opening-at s x ≡ o = cc in
         rw (← v, ← u)
@@ -253,4 +330,15 @@ own-records m s scratch o t r h =
     go (refused k) (declined j) a p q = let z : _≡_ {A = ℕ} 0 1 = cc in absurd (omega arith)
     go (refused k) (given x) a p q = absurd a
     go (got f u) (declined j) a p q = absurd a
-    go (got f u) (given x) a p q = agreed f x a (leb (x .properties .count) (length scratch)) refl p q
+    go (got f u) (given x) a p q = agreed f x a (leb (places-needed (x .properties .count)) (length scratch)) refl p q
+
+-- 02 f): "Place j now holds the position of property frame 16j", of the scratch that opening leaves
+pub own-place : (m : Manner) (s scratch : List ℕ) (o : Opening) (t : Take) → read-take m s ≡ given t → open-file m s (length scratch) ≡ given o
+    → (j : ℕ) → 16 * j < length (t .properties)
+    → getD (scratch-after m s scratch) j 0 ≡ getD (positions (o .scan .properties .place) (t .properties)) (16 * j) 0
+unfolding places-needed
+own-place m s scratch o t r h j k =
+    let n : j < places-needed (length (t .properties)) = omega arith in
+    sym (getD-take (places-needed (length (t .properties))) (scratch-after m s scratch) j 0 n)
+    ∙ ap (λ l. getD l j 0) (own-records m s scratch o t r h .places)
+    ∙ place-holds (o .scan .properties .place) (t .properties) j n

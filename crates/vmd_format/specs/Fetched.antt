@@ -4,16 +4,12 @@ use Prim.Native.Nat.{ℕ}
 use mathlib.Core.Path.{_≡_, refl}
 use mathlib.Core.Bool.{true, false, _&&_}
 use mathlib.Core.List.{List, [], _∷_, _++_}
-use lib.ListN.{replicate}
+use lib.ListN.{take, replicate}
 use lib.Dec.{T}
 use Rattle.vmd_format.specs.Answer.{Answer, given, map-answer}
 use Rattle.vmd_format.specs.Records.{Morph, IkState, bone, morph, camera}
 use Rattle.vmd_format.specs.Fetch.{fetch, or-empty, model-of, PropertyHead, fetch-property, fetch-ik-state}
-use Rattle.vmd_format.specs.Computed.{computed, declines, text, fours, bone-bytes, bone-said, morph-bytes, morph-said, camera-bytes, camera-said, ik-bytes, ik-said}
-
--- the largest number that a place or a position can be
-abbrev last : ℕ
-last = 18446744073709551615
+use Rattle.vmd_format.specs.Computed.{computed, declines, last, text, fours, bone-bytes, bone-said, morph-bytes, morph-said, camera-bytes, camera-said, ik-bytes, ik-said}
 
 -- ---- records of one size
 
@@ -52,7 +48,8 @@ frame = fours (10 ∷ []) ++ (255 ∷ []) ++ fours (2 ∷ []) ++ ik-bytes 75 88 
 abbrev longer : List ℕ
 longer = frame ++ ik-bytes 77 88 1
 
--- positions of another file: the frame's, the last with nine bytes there, the first without, and the largest number
+-- places of another file, for frames 0, 16, 32 and 48: the frame's, the last with nine bytes there, the first without, and the
+-- largest number
 abbrev scratch : List ℕ
 scratch = 0 ∷ 42 ∷ 43 ∷ last ∷ []
 
@@ -61,15 +58,15 @@ property-of count i = fetch-property (record { count = count; place = 0 }) scrat
 
 -- nine bytes are a property frame, though its IK states be past the end
 pub frame-at-the-place :
-    (property-of 5 0 ≡ given (record { frame = 10; visible = true; ik-count = 2 }))
-    × (property-of 5 1 ≡ given (record { frame = 1482184792; visible = true; ik-count = 5789784 }))
+    (property-of 65 0 ≡ given (record { frame = 10; visible = true; ik-count = 2 }))
+    × (property-of 65 16 ≡ given (record { frame = 1482184792; visible = true; ik-count = 5789784 }))
 unfolding computed
 frame-at-the-place = (refl, refl)
 
--- 4: nine bytes not there, a position whose sum would wrap, a scratch too short for the number, a number at the count
+-- 4: nine bytes not there, a place whose sum would wrap, a scratch too short for the number, a number at the count
 pub frame-outside : T (
-    declines (property-of 5 2) 4 && declines (property-of 5 3) 4 && declines (property-of 5 4) 4
-    && declines (property-of 1 1) 4 && declines (property-of 0 0) 4)
+    declines (property-of 65 32) 4 && declines (property-of 65 48) 4 && declines (property-of 65 64) 4
+    && declines (property-of 16 16) 4 && declines (property-of 0 0) 4)
 unfolding computed
 frame-outside = tt
 
@@ -79,14 +76,17 @@ ik-in s count i j = fetch-ik-state (record { count = count; place = 0 }) scratch
 abbrev ik-of : ℕ → ℕ → ℕ → Answer IkState
 ik-of = ik-in frame
 
-pub state-at-the-place : (ik-of 5 0 0 ≡ given (ik-said 75 true)) × (ik-of 5 0 1 ≡ given (ik-said 76 false))
+-- each needs its own bytes only: the first is there where the second is cut
+pub state-at-the-place :
+    (ik-of 65 0 0 ≡ given (ik-said 75 true)) × (ik-of 65 0 1 ≡ given (ik-said 76 false)) × (ik-in (take 50 frame) 65 0 0 ≡ given (ik-said 75 true))
+    × T (declines (ik-in (take 50 frame) 65 0 1) 4)
 unfolding computed
-state-at-the-place = (refl, refl)
+state-at-the-place = (refl, refl, refl, tt)
 
 -- 4: an IK number at its count, an IK count past the end, and each frame that is outside
 pub state-outside : T (
-    declines (ik-of 5 0 2) 4 && declines (ik-in longer 5 0 2) 4 && declines (ik-of 5 1 0) 4 && declines (ik-of 5 2 0) 4 && declines (ik-of 5 3 0) 4
-    && declines (ik-of 5 4 0) 4 && declines (ik-of 1 1 0) 4)
+    declines (ik-of 65 0 2) 4 && declines (ik-in longer 65 0 2) 4 && declines (ik-of 65 16 0) 4 && declines (ik-of 65 32 0) 4 && declines (ik-of 65 48 0) 4
+    && declines (ik-of 65 64 0) 4 && declines (ik-of 16 16 0) 4)
 unfolding computed
 state-outside = tt
 
@@ -105,7 +105,7 @@ pub parts-or-empty :
     (bone-at 0 0 ≡ (bone-said 65 7 .name, bone-said 65 7 .interpolation)) × (bone-at 112 0 ≡ ([], [])) × (bone-at 0 1 ≡ ([], []))
     × (camera-at 0 0 ≡ camera-said 5 true .interpolation) × (camera-at 62 0 ≡ []) × (camera-at 0 1 ≡ [])
     × (or-empty (map-answer (λ m. m .name) (morph-of 2 2 1)) ≡ 67 ∷ []) × (or-empty (map-answer (λ m. m .name) (morph-of 1 2 1)) ≡ [])
-    × (or-empty (map-answer (λ k. k .name) (ik-of 5 0 0)) ≡ 75 ∷ []) × (or-empty (map-answer (λ k. k .name) (ik-in longer 5 0 2)) ≡ [])
+    × (or-empty (map-answer (λ k. k .name) (ik-of 65 0 0)) ≡ 75 ∷ []) × (or-empty (map-answer (λ k. k .name) (ik-in longer 65 0 2)) ≡ [])
 unfolding computed
 parts-or-empty = (refl, refl, refl, refl, refl, refl, refl, refl, refl, refl)
 

@@ -10,7 +10,7 @@ use Rattle.vmd_format.specs.Refusal.{scratch-too-short}
 use Rattle.vmd_format.specs.Answer.{Answer, declined, given, and-then, unless}
 use Rattle.vmd_format.specs.Read.{Step, refused, got, Manner}
 use Rattle.vmd_format.specs.Take.{File, read-file}
-use Rattle.vmd_format.specs.Opening.{Scan, Opening, open-file}
+use Rattle.vmd_format.specs.Opening.{places-needed, Scan, Opening, open-file}
 use Rattle.vmd_format.specs.Fetch.{model-of}
 use Rattle.vmd_format.specs.Places.{Reaches, scan-file, opening-at, open-scan}
 use Rattle.vmd_format.specs.WalkLaws.{Passed, walk-passed}
@@ -56,7 +56,7 @@ opened-scan m s places o e = go (scan-file m s) (sym (open-by-places m s places)
 
     go : (y : Answer Scan) → and-then y (open-scan s places) ≡ given o → y ≡ given (o .scan)
     go (declined k) q = let z : _≡_ {A = ℕ} 0 1 = cc in absurd (omega arith)
-    go (given x) q = one x (leb (x .properties .count) places) q
+    go (given x) q = one x (leb (places-needed (x .properties .count)) places) q
 
 -- its IK states are no more than the file's bytes
 pub opened-few : (m : Manner) (s : List ℕ) (places : ℕ) (o : Opening) → length s ≤ 65536 → open-file m s places ≡ given o → o .scan .ik-states ≤ 65536

@@ -34,6 +34,7 @@ pub mod Takes
 pub mod Decodes
 pub mod WholeFile
 pub mod Fetched
+pub mod Walks
 pub mod FrameLaws
 pub mod Joins
 pub mod Built

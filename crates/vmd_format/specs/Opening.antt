@@ -1,8 +1,8 @@
--- What opening a file gives: document 01, "Opening", and 02 c. Definitions only.
-use Prim.Native.Nat.{ℕ, zero, suc, _+_, _*_, _-_, min, max}
+-- What opening a file gives: document 01, "Opening", and 02 c) and f). Definitions only.
+use Prim.Native.Nat.{ℕ, zero, suc, _+_, _*_, _-_, _/_, min, max}
 use mathlib.Core.Bool.{Bool, true, false}
 use mathlib.Core.List.{List, [], _∷_, _++_, map}
-use lib.ListN.{length, drop}
+use lib.ListN.{length, getD, drop}
 use lib.Dec.{leb}
 use Rattle.vmd_format.specs.Refusal.{scratch-too-short}
 use Rattle.vmd_format.specs.Answer.{Answer, declined, given, unless}
@@ -51,6 +51,19 @@ largest-frame t = largest (take-frames t)
 unfoldable pub positions : ℕ → List Property → List ℕ
 positions at [] = []
 positions at (p ∷ l) = at ∷ positions (at + 9 + 21 * length (p .ik-states)) l
+
+-- 02 f): "a sixteenth of the frames, rounded up"
+unfoldable pub places-needed : ℕ → ℕ
+places-needed n = (n + 15) / 16
+
+-- every sixteenth of a list from its first on, n of them
+unfoldable pub sixteenths : ℕ → List ℕ → List ℕ
+sixteenths zero l = []
+sixteenths (suc n) l = getD l 0 0 ∷ sixteenths n (drop 16 l)
+
+-- 02 f): "Place j now holds the position of property frame 16j only"
+unfoldable pub sixteenth-positions : ℕ → List Property → List ℕ
+sixteenth-positions at l = sixteenths (places-needed (length l)) (positions at l)
 
 -- how many records a section has, and its place (document 01's term)
 pub record Extent : Type 0 where
@@ -105,16 +118,17 @@ smaller-of (suc n) (suc m) j k = min j k
 unfoldable pub joined-smallest : Opening → Opening → ℕ
 joined-smallest a b = smaller-of (record-count (a .scan)) (record-count (b .scan)) (a .smallest-frame) (b .smallest-frame)
 
--- "scratch has fewer places than property frames: 3"; "Opening: 1 and 2 as met, then 3."
+-- 02 f): "Refusal 3 is given when the scratch has fewer than a sixteenth of the frames, rounded up"; "Opening: 1 and 2 as met,
+-- then 3."
 unfoldable pub opened : List ℕ → ℕ → Step File → Answer Opening
 opened s places (refused k) = declined k
-opened s places (got f r) = unless (leb (length (f .properties .items)) places) scratch-too-short (given (opening-of s f))
+opened s places (got f r) = unless (leb (places-needed (length (f .properties .items))) places) scratch-too-short (given (opening-of s f))
 
 unfoldable pub open-file : Manner → List ℕ → ℕ → Answer Opening
 open-file m s places = opened s places (read-file m s)
 
 -- "A lent scratch of 64-bit numbers receives the byte position of each property frame, first places first; further places
--- keep their contents"; a refusal leaves all of it.
+-- keep their contents", since 02 f) of each sixteenth; a refusal leaves all of it.
 unfoldable pub scratch-if : Bool → List ℕ → List ℕ → List ℕ
 scratch-if true p scratch = p ++ drop (length p) scratch
 scratch-if false p scratch = scratch
@@ -122,8 +136,8 @@ scratch-if false p scratch = scratch
 unfoldable pub scratch-of : List ℕ → List ℕ → Step File → List ℕ
 scratch-of s scratch (refused k) = scratch
 scratch-of s scratch (got f r) =
-    scratch-if (leb (length (f .properties .items)) (length scratch))
-    (positions (extent-of s (f .properties) .place) (f .properties .items)) scratch
+    scratch-if (leb (places-needed (length (f .properties .items))) (length scratch))
+    (sixteenth-positions (extent-of s (f .properties) .place) (f .properties .items)) scratch
 
 unfoldable pub scratch-after : Manner → List ℕ → List ℕ → List ℕ
 scratch-after m s scratch = scratch-of s scratch (read-file m s)

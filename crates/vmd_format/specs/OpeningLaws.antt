@@ -1,24 +1,24 @@
 -- Opening by places is opening: counts, places, IK total, smallest and largest frame, and the scratch.
-use Prim.Native.Nat.{ℕ, zero, suc, _+_, _*_, _-_, _/_, _≤_}
+use Prim.Native.Nat.{ℕ, zero, suc, _+_, _*_, _-_, _/_, _≤_, _<_}
 use mathlib.Core.Path.{_≡_, refl, ap, ap₂, sym, _∙_, subst}
 use mathlib.Core.Logic.{_↔_}
-use mathlib.Core.List.{List, _∷_, _++_, map}
-use native.Mathlib.Nat.{add-zero}
+use mathlib.Core.List.{List, [], _∷_, _++_, map}
+use native.Mathlib.Nat.{add-zero, zero-add}
 use native.Mathlib.Omega.{arith}
-use lib.ListN.{length, drop}
-use lib.Seq.{drop-drop}
+use lib.ListN.{length, getD, drop}
+use lib.Seq.{drop-drop, getD-drop}
 use borrow.Author.Tests.{le-leb}
 use Rattle.vmd_format.specs.Bytes.{u32}
 use Rattle.vmd_format.specs.Layout.{Layout, number, byte, inverted, name, raw, _⊗_, as-record}
 use Rattle.vmd_format.specs.Answer.{Answer, declined, given, and-then, unless}
-use Rattle.vmd_format.specs.Records.{bone, morph, camera, light, self-shadow, ik-state}
+use Rattle.vmd_format.specs.Records.{Property, bone, morph, camera, light, self-shadow, ik-state}
 use Rattle.vmd_format.specs.Read.{Step, refused, got, table, Manner}
 use Rattle.vmd_format.specs.Take.{Take, File, take-of, read-file, answer, read-take}
-use Rattle.vmd_format.specs.Opening.{ik-total, take-frames, smallest-frame, largest-frame, positions, Scan, Opening, extent-of, scan-of, opening-of, opened, open-file, scratch-of, scratch-after}
+use Rattle.vmd_format.specs.Opening.{ik-total, take-frames, smallest-frame, largest-frame, positions, places-needed, sixteenths, sixteenth-positions, Scan, Opening, extent-of, scan-of, opening-of, opened, open-file, scratch-of, scratch-after}
 use Rattle.vmd_format.specs.Fetch.{model-of}
-use Rattle.vmd_format.specs.Places.{scan-file, next-frame, frame-places, frames-from, scan-frames, opening-at, open-scan, scan-scratch}
+use Rattle.vmd_format.specs.Places.{scan-file, next-frame, frame-end, sixteenth-places, frames-from, scan-frames, opening-at, open-scan, scan-scratch}
 use Rattle.vmd_format.specs.PlacesLaws.{table-length, section-in, property-in, frames-in}
-use Rattle.vmd_format.specs.ScanLaws.{file-in, Agrees, Matches, file-agrees}
+use Rattle.vmd_format.specs.ScanLaws.{frames-length, file-in, Agrees, Matches, file-agrees}
 
 -- the frames of back-to-back records
 frames-table : {A : Type 0} (K : Layout A) (frame : A → ℕ) (offset : ℕ) → ((s : List ℕ) → frame (K .decode s) ≡ u32 (drop offset s))
@@ -45,14 +45,69 @@ file-frames model s x =
     (ap₂ _++_ (frames-table self-shadow (λ d. d .frame) 0 (λ t. refl) s (x .self-shadows .count) (x .self-shadows .place))
     (frames-properties s (x .properties .count) (x .properties .place))))))
 
--- the positions of the frames of these places
-pub positions-places : (s : List ℕ) (n at : ℕ) → positions at (frames-in s n at) ≡ frame-places s n at
-unfolding positions frames-in frame-places property-in next-frame
-positions-places s zero at = refl
-positions-places s (suc n) at =
-    let k = u32 (drop (at + 5) s) in
-    let e : at + 9 + 21 * length (table ik-state k (drop (at + 9) s)) ≡ at + 9 + k * 21 = rw (table-length ik-state k (drop (at + 9) s)) (omega arith) in
-    rw e (ap {B = List ℕ} (λ r. at ∷ r) (positions-places s n (at + 9 + k * 21)))
+-- ---- positions
+
+pub positions-length : (p : ℕ) (l : List Property) → length (positions p l) ≡ length l
+unfolding positions
+positions-length p [] = refl
+positions-length p (f ∷ l) = ap suc (positions-length (p + 9 + 21 * length (f .ik-states)) l)
+
+sixteenths-length : (n : ℕ) (l : List ℕ) → length (sixteenths n l) ≡ n
+unfolding sixteenths
+sixteenths-length zero l = refl
+sixteenths-length (suc n) l = ap suc (sixteenths-length n (drop 16 l))
+
+pub sixteenth-length : (p : ℕ) (l : List Property) → length (sixteenth-positions p l) ≡ places-needed (length l)
+unfolding sixteenth-positions
+sixteenth-length p l = sixteenths-length (places-needed (length l)) (positions p l)
+
+-- "Place j now holds the position of property frame 16j"
+sixteenths-at : (n j : ℕ) (l : List ℕ) → j < n → getD (sixteenths n l) j 0 ≡ getD l (16 * j) 0
+unfolding sixteenths
+sixteenths-at zero j l h = absurd (omega arith)
+sixteenths-at (suc n) zero l h = refl
+sixteenths-at (suc n) (suc j) l h =
+    let e : 16 + 16 * j ≡ 16 * suc j = omega arith in
+    sixteenths-at n j (drop 16 l) (omega arith) ∙ getD-drop 16 l (16 * j) 0 ∙ rw e
+
+pub place-holds : (at : ℕ) (l : List Property) (j : ℕ) → j < places-needed (length l) → getD (sixteenth-positions at l) j 0 ≡ getD (positions at l) (16 * j) 0
+unfolding sixteenth-positions
+place-holds at l j h = sixteenths-at (places-needed (length l)) j (positions at l) h
+
+-- nine bytes, and 21 for each IK state: the next frame
+pub next-of : (s : List ℕ) (at : ℕ) → at + 9 + 21 * length (property-in s at .ik-states) ≡ next-frame s at
+unfolding property-in next-frame
+next-of s at = omega (arith, table-length ik-state (u32 (drop (at + 5) s)) (drop (at + 9) s))
+
+-- the positions of these frames: the first, and after it the others'
+positions-first : (s : List ℕ) (n at : ℕ) → positions at (frames-in s (suc n) at) ≡ at ∷ positions (next-frame s at) (frames-in s n (next-frame s at))
+unfolding positions frames-in
+positions-first s n at = rw (next-of s at)
+
+positions-drop : (s : List ℕ) (k n at : ℕ)
+    → drop k (positions at (frames-in s (k + n) at)) ≡ positions (frame-end s k at) (frames-in s n (frame-end s k at))
+unfolding frame-end
+positions-drop s zero n at = rw zero-add
+positions-drop s (suc k) n at =
+    let e : suc k + n ≡ suc (k + n) = omega arith in
+    rw (e, positions-first s (k + n) at) (positions-drop s k n (next-frame s at))
+
+-- every sixteenth of them
+sixteenths-places : (s : List ℕ) (k n at : ℕ) → 16 * k < n + 16 → sixteenths k (positions at (frames-in s n at)) ≡ sixteenth-places s k at
+unfolding sixteenths sixteenth-places
+sixteenths-places s zero n at h = refl
+sixteenths-places s (suc k) zero at h = absurd (omega arith)
+sixteenths-places s (suc zero) (suc n) at h = rw (positions-first s n at)
+sixteenths-places s (suc (suc k)) (suc n) at h =
+    let e : 16 + (suc n - 16) ≡ suc n = omega arith in
+    let q = positions-drop s 16 (suc n - 16) at in
+    let r : drop 16 (positions at (frames-in s (suc n) at)) ≡ positions (frame-end s 16 at) (frames-in s (suc n - 16) (frame-end s 16 at)) = rw e at q in
+    let f : getD (positions at (frames-in s (suc n) at)) 0 0 ≡ at = rw (positions-first s n at) in
+    rw (f, r) (ap {B = List ℕ} (λ l. at ∷ l) (sixteenths-places s (suc k) (suc n - 16) (frame-end s 16 at) (omega arith)))
+
+pub sixteenth-positions-places : (s : List ℕ) (n at : ℕ) → sixteenth-positions at (frames-in s n at) ≡ sixteenth-places s (places-needed n) at
+unfolding sixteenth-positions places-needed
+sixteenth-positions-places s n at = rw (frames-length s n at) (sixteenths-places s (places-needed n) n at (omega arith))
 
 module _ {s : List ℕ} {f : File} {x : Scan} (a : Agrees s f x) where
   pub agreed-count : length (f .properties .items) ≡ x .properties .count
@@ -95,10 +150,10 @@ scratch-by-places m s scratch = go (read-file m s) (scan-file m s) (file-agrees 
     go (refused k) (given x) a = absurd a
     go (got f r) (declined j) a = absurd a
     go (got f r) (given x) a =
-        rw (agreed-count (a .1), agreed-place (a .1), agreed-frames (a .1), positions-places s (x .properties .count) (x .properties .place))
+        rw (agreed-count (a .1), agreed-place (a .1), agreed-frames (a .1), sixteenth-positions-places s (x .properties .count) (x .properties .place))
 
 -- a file that reads as a take opens with scratch enough, and one that opens reads as a take
-pub take-opens : (m : Manner) (s : List ℕ) (t : Take) (places : ℕ) → read-take m s ≡ given t → length (t .properties) ≤ places
+pub take-opens : (m : Manner) (s : List ℕ) (t : Take) (places : ℕ) → read-take m s ≡ given t → places-needed (length (t .properties)) ≤ places
     → (o : Opening) × (open-file m s places ≡ given o)
 unfolding read-take answer take-of open-file opened unless
 take-opens m s t places r h = go (read-file m s) r
@@ -107,8 +162,8 @@ take-opens m s t places r h = go (read-file m s) r
     go (refused k) e = let z : _≡_ {A = ℕ} 0 1 = cc in absurd (omega arith)
     go (got f u) e =
         let q : take-of f ≡ t = cc in
-        let n : length (f .properties .items) ≤ places = subst (λ v. length (v .properties) ≤ places) (sym q) h in
-        (opening-of s f, rw (le-leb (length (f .properties .items)) places n))
+        let n : places-needed (length (f .properties .items)) ≤ places = subst (λ v. places-needed (length (v .properties)) ≤ places) (sym q) h in
+        (opening-of s f, rw (le-leb (places-needed (length (f .properties .items))) places n))
 
 pub opened-reads : (m : Manner) (s : List ℕ) (o : Opening) (places : ℕ) → open-file m s places ≡ given o → (t : Take) × (read-take m s ≡ given t)
 unfolding read-take answer open-file opened
@@ -120,24 +175,24 @@ opened-reads m s o places h = go (read-file m s) h
 
 -- ---- acceptance
 
--- "with scratch enough": not fewer places than property frames
+-- "with scratch enough": not fewer places than a sixteenth of the property frames, rounded up
 abbrev pub ScratchEnough : Manner → List ℕ → ℕ → Type 0
-ScratchEnough m s places = (t : Take) → read-take m s ≡ given t → length (t .properties) ≤ places
+ScratchEnough m s places = (t : Take) → read-take m s ≡ given t → places-needed (length (t .properties)) ≤ places
 
 -- "The reader accepts a file when opening it, with scratch enough, gives no refusal": it reads as a take exactly then
 pub accepts : (m : Manner) (s : List ℕ) (places : ℕ) → ScratchEnough m s places
     → ((t : Take) × (read-take m s ≡ given t)) ↔ ((o : Opening) × (open-file m s places ≡ given o))
 accepts m s places h = (λ x. take-opens m s (x .0) places (x .1) (h (x .0) (x .1)), λ x. opened-reads m s (x .0) places (x .1))
 
--- a place for each nine bytes of the file is always enough, since a property frame has at least nine
-pub ninth-enough : (m : Manner) (s : List ℕ) (places : ℕ) → length s / 9 ≤ places → ScratchEnough m s places
-unfolding read-take answer take-of
+-- the places of length / 9 frames are always enough, since a property frame has at least nine bytes
+pub ninth-enough : (m : Manner) (s : List ℕ) (places : ℕ) → places-needed (length s / 9) ≤ places → ScratchEnough m s places
+unfolding read-take answer take-of places-needed
 ninth-enough m s places n t e = go (read-file m s) (scan-file m s) (file-agrees m s) e
   where
-    go : (x : Step File) (y : Answer Scan) → Matches s (model-of s) x y → answer x ≡ given t → length (t .properties) ≤ places
+    go : (x : Step File) (y : Answer Scan) → Matches s (model-of s) x y → answer x ≡ given t → places-needed (length (t .properties)) ≤ places
     go (refused k) y a e = let z : _≡_ {A = ℕ} 0 1 = cc in absurd (omega arith)
     go (got f r) (declined j) a e = absurd a
     go (got f r) (given x) a e =
         let q : take-of f ≡ t = cc in
-        let k : length (f .properties .items) ≤ places = omega (arith, agreed-count (a .1), a .1 .inside .properties .ends) in
-        subst (λ u. length (u .properties) ≤ places) q k
+        let k : places-needed (length (f .properties .items)) ≤ places = omega (arith, agreed-count (a .1), a .1 .inside .properties .ends) in
+        subst (λ u. places-needed (length (u .properties)) ≤ places) q k

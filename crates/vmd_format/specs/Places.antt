@@ -10,7 +10,7 @@ use Rattle.vmd_format.specs.Refusal.{file-ends-early, scratch-too-short}
 use Rattle.vmd_format.specs.Answer.{Answer, declined, given, and-then, unless}
 use Rattle.vmd_format.specs.Read.{Step, refused, got, Oversized, refuse, emptied, BytesOver, ignored, turned-down, Manner}
 use Rattle.vmd_format.specs.Take.{header}
-use Rattle.vmd_format.specs.Opening.{smallest, largest, Extent, Scan, Opening, scratch-if}
+use Rattle.vmd_format.specs.Opening.{smallest, largest, places-needed, Extent, Scan, Opening, scratch-if}
 
 -- where the sections begin
 unfoldable pub place-after : List ℕ → Step (List ℕ) → Answer ℕ
@@ -128,9 +128,15 @@ unfoldable pub Reaches : List ℕ → ℕ → ℕ → Type 0
 Reaches s zero at = Unit {0}
 Reaches s (suc n) at = (next-frame s at ≤ length s) × Reaches s n (next-frame s at)
 
-unfoldable pub frame-places : List ℕ → ℕ → ℕ → List ℕ
-frame-places s zero at = []
-frame-places s (suc n) at = at ∷ frame-places s n (next-frame s at)
+-- where n frames end
+unfoldable pub frame-end : List ℕ → ℕ → ℕ → ℕ
+frame-end s zero at = at
+frame-end s (suc n) at = frame-end s n (next-frame s at)
+
+-- n places, each 16 frames on from the one before
+unfoldable pub sixteenth-places : List ℕ → ℕ → ℕ → List ℕ
+sixteenth-places s zero at = []
+sixteenth-places s (suc n) at = at ∷ sixteenth-places s n (frame-end s 16 at)
 
 -- the frames of n records from a place on, each a number so many bytes into its record; `next` leads from a record's place to
 -- the next
@@ -159,9 +165,10 @@ unfoldable pub opening-at : List ℕ → Scan → Opening
 opening-at s x = record { scan = x; smallest-frame = smallest (scan-frames s x); largest-frame = largest (scan-frames s x) }
 
 unfoldable pub open-scan : List ℕ → ℕ → Scan → Answer Opening
-open-scan s places x = unless (leb (x .properties .count) places) scratch-too-short (given (opening-at s x))
+open-scan s places x = unless (leb (places-needed (x .properties .count)) places) scratch-too-short (given (opening-at s x))
 
 unfoldable pub scan-scratch : List ℕ → List ℕ → Answer Scan → List ℕ
 scan-scratch s scratch (declined k) = scratch
 scan-scratch s scratch (given x) =
-    scratch-if (leb (x .properties .count) (length scratch)) (frame-places s (x .properties .count) (x .properties .place)) scratch
+    scratch-if (leb (places-needed (x .properties .count)) (length scratch))
+    (sixteenth-places s (places-needed (x .properties .count)) (x .properties .place)) scratch

@@ -14,7 +14,7 @@ use Rattle.vmd_format.specs.Answer.{Answer, declined, given, and-then, u
 use Rattle.vmd_format.specs.Records.{ik-state, property-head}
 use Rattle.vmd_format.specs.Read.{Step, refused, got, Reader, bind, Codec, whole-if, whole, fixed, many, Section, Oversized, refuse, emptied, BytesOver, ignored, turned-down, Manner, lenient, over-count, records-if, counted-if, counted, optional}
 use Rattle.vmd_format.specs.Take.{Take, File, take-of, property, magic, older-magic, same, edition-if, edition, model-if, magic-if, header-if, header, ended, sections, read-file, answer, read-take}
-use Rattle.vmd_format.specs.Opening.{Opening, opening-of, opened, open-file}
+use Rattle.vmd_format.specs.Opening.{places-needed, Opening, opening-of, opened, open-file}
 use Rattle.vmd_format.specs.OpeningLaws.{take-opens, ScratchEnough}
 
 -- ---- definitions
@@ -204,7 +204,7 @@ module _ (m : Manner) where
 
       go : (x : Step File) → Refused OfReading x → Refuses (reading-numbers m ++ (3 ∷ [])) (opened s places x)
       go (refused k) h = among-front (reading-numbers m) (3 ∷ []) h
-      go (got f r) h = short (leb (length (f .properties .items)) places) (opening-of s f)
+      go (got f r) h = short (leb (places-needed (length (f .properties .items))) places) (opening-of s f)
 
   -- a file that is not read is refused with that number, whatever the scratch
   pub opening-reads-first : (s : List ℕ) (places : ℕ) (k : Refusal) → read-take m s ≡ declined k → open-file m s places ≡ declined k
@@ -215,8 +215,8 @@ module _ (m : Manner) where
       go (refused j) e = cc
       go (got f r) e = let z : _≡_ {A = ℕ} 0 1 = cc in absurd (omega arith)
 
-  -- one that is read is refused only for its scratch: "fewer places than property frames"
-  pub opening-then-scratch : (s : List ℕ) (places : ℕ) (t : Take) → read-take m s ≡ given t → places < length (t .properties)
+  -- one that is read is refused only for its scratch: "fewer than a sixteenth of the frames, rounded up"
+  pub opening-then-scratch : (s : List ℕ) (places : ℕ) (t : Take) → read-take m s ≡ given t → places < places-needed (length (t .properties))
       → open-file m s places ≡ declined scratch-too-short
   unfolding read-take answer take-of open-file opened unless
   opening-then-scratch s places t e h = go (read-file m s) e
@@ -225,8 +225,8 @@ module _ (m : Manner) where
       go (refused j) e = let z : _≡_ {A = ℕ} 0 1 = cc in absurd (omega arith)
       go (got f r) e =
           let q : take-of f ≡ t = cc in
-          let n : places < length (f .properties .items) = subst (λ u. places < length (u .properties)) (sym q) h in
-          rw (lt-leb (length (f .properties .items)) places n)
+          let n : places < places-needed (length (f .properties .items)) = subst (λ u. places < places-needed (length (u .properties))) (sym q) h in
+          rw (lt-leb (places-needed (length (f .properties .items))) places n)
 
   -- with scratch enough, only as reading refuses
   pub enough-refuses : (s : List ℕ) (places : ℕ) → ScratchEnough m s places → Refuses (reading-numbers m) (open-file m s places)

@@ -3,6 +3,7 @@ use Prim.Native.Nat.{ℕ, zero, suc, _+_, _-_, _*_, _≤_, _<_}
 use mathlib.Core.Path.{_≡_, refl, ap}
 use mathlib.Core.Bool.{Bool, true, false}
 use mathlib.Core.List.{List, [], _∷_, _++_}
+use native.Mathlib.Nat.{zero-add}
 use native.Mathlib.Omega.{arith}
 use lib.ListN.{length, getD, drop, length-append}
 use lib.Dec.{leb}
@@ -14,7 +15,7 @@ use Rattle.vmd_format.specs.Read.{fixed, table, write-all, write-counted
 use Rattle.vmd_format.specs.Records.{ik-state, property-head}
 use Rattle.vmd_format.specs.Take.{property}
 use Rattle.vmd_format.specs.Opening.{ik-total}
-use Rattle.vmd_format.specs.Places.{Span, Walk, span, walk, walk-on, next-frame, Reaches}
+use Rattle.vmd_format.specs.Places.{Span, Walk, span, walk, walk-on, next-frame, Reaches, frame-end}
 use Rattle.vmd_format.specs.PlacesLaws.{Holds, Frame, frame-span, table-length, property-in, frames-in}
 use Rattle.vmd_format.specs.SizedLaws.{ik-state-sized, section-length}
 
@@ -58,15 +59,26 @@ frames-none s n at e = rw e
 
 -- ---- where n frames end
 
-unfoldable pub frame-end : List ℕ → ℕ → ℕ → ℕ
-frame-end s zero at = at
-frame-end s (suc n) at = frame-end s n (next-frame s at)
-
 pub frames-total : (s : List ℕ) (n at : ℕ) → frame-end s n at ≡ at + 9 * n + 21 * ik-total (frames-in s n at)
 unfolding frame-end frames-in ik-total property-in next-frame
 frames-total s zero at = omega arith
 frames-total s (suc n) at =
     omega (arith, frames-total s n (next-frame s at), table-length ik-state (u32 (drop (at + 5) s)) (drop (at + 9) s))
+
+pub frame-end-on : (s : List ℕ) (k n at : ℕ) → frame-end s n (frame-end s k at) ≡ frame-end s (k + n) at
+unfolding frame-end
+frame-end-on s zero n at = rw zero-add
+frame-end-on s (suc k) n at = let e : suc k + n ≡ suc (k + n) = omega arith in rw e (frame-end-on s k n (next-frame s at))
+
+-- some of the frames, and the others
+pub reaches-split : (s : List ℕ) (a b at : ℕ) → Reaches s (a + b) at → Reaches s a at × Reaches s b (frame-end s a at)
+unfolding Reaches frame-end
+reaches-split s zero b at r = (tt, rw zero-add at r)
+reaches-split s (suc a) b at r =
+    let e : suc a + b ≡ suc (a + b) = omega arith in
+    let q : Reaches s (suc (a + b)) at = rw e at r in
+    let m = reaches-split s a b (next-frame s at) (q .1) in
+    ((q .0, m .0), m .1)
 
 -- one more frame
 pub frame-more : (s : List ℕ) (n at : ℕ) → Reaches s n at → next-frame s (frame-end s n at) ≤ length s

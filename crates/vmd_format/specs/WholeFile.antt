@@ -67,7 +67,7 @@ unfolding computed
 file-cut = (tt, refl)
 
 -- its opening, with just enough scratch
-pub file-opened : open-file lenient file 3 ≡ given (record {
+pub file-opened : open-file lenient file 1 ≡ given (record {
   scan = record {
     bones = record { count = 1; place = 54 };
     morphs = record { count = 4; place = 169 };
@@ -88,24 +88,24 @@ pub file-positions : positions 593 (said .properties) ≡ 593 ∷ 623 ∷ 674 �
 unfolding computed
 file-positions = refl
 
--- a scratch of five places receives three positions and keeps its tail
-pub scratch-kept : scratch-after lenient file (91 ∷ 92 ∷ 93 ∷ 94 ∷ 95 ∷ []) ≡ 593 ∷ 623 ∷ 674 ∷ 94 ∷ 95 ∷ []
+-- a scratch of three places receives the first frame's position and keeps its tail
+pub scratch-kept : scratch-after lenient file (91 ∷ 92 ∷ 93 ∷ []) ≡ 593 ∷ 92 ∷ 93 ∷ []
 unfolding computed
 scratch-kept = refl
 
 -- more scratch changes nothing in the opening
-pub more-scratch : open-file lenient file 5 ≡ open-file lenient file 3
+pub more-scratch : open-file lenient file 3 ≡ open-file lenient file 1
 unfolding computed
 more-scratch = refl
 
--- one place fewer than frames, and none at all: refusal 3
-pub scratch-tested : T (declines (open-file lenient file 2) 3 && declines (open-file lenient file 0) 3)
+-- no place for its three frames: refusal 3
+pub scratch-tested : T (declines (open-file lenient file 0) 3)
 unfolding computed
 scratch-tested = tt
 
 -- refusal 3, and refusal 1 of a file cut before its last byte, leave the scratch as it was
 pub scratch-unchanged :
-    (scratch-after lenient file (91 ∷ 92 ∷ []) ≡ 91 ∷ 92 ∷ [])
+    (scratch-after lenient file [] ≡ [])
     × (scratch-after lenient (take 682 file) (91 ∷ 92 ∷ 93 ∷ []) ≡ 91 ∷ 92 ∷ 93 ∷ [])
 unfolding computed
 scratch-unchanged = (refl, refl)

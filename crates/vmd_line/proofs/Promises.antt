@@ -1,4 +1,4 @@
--- Two promises of the line: its last number is the length of the export, and 8,192 places of scratch are enough. Assumes nothing.
+-- Two promises of the line: its last number is the length of the export, and 512 places of scratch are enough. Assumes nothing.
 use Prim.Native.Nat.{ℕ, _≤_}
 use mathlib.Core.Path.{_≡_, refl, ap}
 use mathlib.Core.Bool.{_&&_}
@@ -9,7 +9,7 @@ use lib.ListN.{length}
 use Rattle.vmd_format.specs.Answer.{given, map-answer}
 use Rattle.vmd_format.specs.Read.{Manner, lenient}
 use Rattle.vmd_format.specs.Take.{newer, same, write-take}
-use Rattle.vmd_format.specs.Opening.{Opening, open-file}
+use Rattle.vmd_format.specs.Opening.{places-needed, Opening, open-file}
 use Rattle.vmd_format.specs.Join.{export-file, file-length}
 use Rattle.vmd_format.specs.Places.{scan-file}
 use Rattle.vmd_format.specs.OpeningLaws.{ninth-enough}
@@ -31,12 +31,13 @@ export-is-as-long m s places o e =
 
 -- ---- scratch enough
 
--- with 8,192 places no file of at most 65,536 bytes is refused with 3, since a property frame has at least nine bytes
-pub scratch-is-enough : (m : Manner) (s : List ℕ) → length s ≤ 65536 → Refuses (reading-numbers m) (open-file m s 8192)
-scratch-is-enough m s h = enough-refuses m s 8192 (ninth-enough m s 8192 (omega arith))
+-- with 512 places no file of at most 65,536 bytes is refused with 3, since a property frame has at least nine bytes and a place serves sixteen
+pub scratch-is-enough : (m : Manner) (s : List ℕ) → length s ≤ 65536 → Refuses (reading-numbers m) (open-file m s 512)
+unfolding places-needed
+scratch-is-enough m s h = enough-refuses m s 512 (ninth-enough m s 512 (omega arith))
 
 -- in the lenient manner, only with 1 or 2
-pub refused-early : (s : List ℕ) → length s ≤ 65536 → Refuses (1 ∷ 2 ∷ []) (open-file lenient s 8192)
+pub refused-early : (s : List ℕ) → length s ≤ 65536 → Refuses (1 ∷ 2 ∷ []) (open-file lenient s 512)
 unfolding lenient
 refused-early s h = scratch-is-enough lenient s h
 

@@ -7,7 +7,8 @@ fn main() {
     // One byte more than the longest file that is listed.
     let mut file = [0u8; 65537];
     let n = io::read_full(STDIN_FILENO, &mut file);
-    let mut scratch = [0u64; 8192];
+    // Enough for a file of that length: a place serves sixteen property frames, and a frame has nine bytes.
+    let mut scratch = [0u64; 512];
     let mut out = [0u8; 256];
     let end = vmd_line::list_line(&file[..n], &mut scratch, &mut out);
     io::write_all(STDOUT_FILENO, &out[..end]);

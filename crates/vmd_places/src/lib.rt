@@ -1,4 +1,5 @@
 // Where records, names and interpolation bytes stand in a file. Internal: callers see to the lengths where a contract asks it.
+use vmd_base::FRAMES_PER_PLACE;
 use vmd_base::VmdPart;
 use vmd_base::VmdRefusal;
 use vmd_base::VmdSection;
@@ -6,8 +7,9 @@ use vmd_records::VmdParsedIkState;
 use vmd_records::VmdParsedPropertyFrame;
 ghost use mathlib.Core.Path.{_≡_};
 ghost use Prim.Native.Nat.{_+_, _≤_};
+ghost use lib.Dec.{leb};
 ghost use lib.ListN.{length, take, drop};
-ghost use Rattle.vmd_format.specs.Fetch.{record-place, property-place};
+ghost use Rattle.vmd_format.specs.Fetch.{record-place, next-place, walk-frames, frame-place, property-place};
 ghost use Rattle.vmd_format.specs.PlacesLaws.{Holds};
 ghost use Rattle.vmd_base.specs.Meaning.{extent-is};
 ghost use Rattle.vmd_places.specs.Meaning.{place-answer, ik-place};
@@ -39,25 +41,74 @@ pub fn place_of(file: &[u8], section: VmdSection, record_size: usize, i: usize) 
     VmdPlace::At(place + offset)
 }
 
-// Where property frame i stands: the scratch names it. Every call for property frames, IK states and IK names goes through
-// here.
+// Whether the nine bytes of a property frame at a place lie in the file. No sum wraps.
+fn holds_frame(file: &[u8], at: usize) -> bool
+    ensures { λ r. ⌜ r ≡ leb (at + 9) (length (now (file .entry))) ⌝ }
+{
+    if file.len() < at {
+        return false;
+    }
+    VmdParsedPropertyFrame::SIZE <= file.len() - at
+}
+
+// Where the property frame at a place ends, with its IK states, and the next one stands; refused where not all of it lies in the
+// file.
+pub fn next_place(file: &[u8], at: usize) -> VmdPlace
+    ensures { λ r. ⌜ place-answer r ≡ next-place (now (file .entry)) at ⌝ }
+{
+    if !holds_frame(file, at) {
+        return VmdPlace::Refused(VmdRefusal::Outside);
+    }
+    let states = vmd_bytes::read_u32_le(file, at + VmdParsedPropertyFrame::IK_COUNT_OFFSET);
+    let bytes = (states as usize) * VmdParsedIkState::SIZE;
+    if file.len() - at - VmdParsedPropertyFrame::SIZE < bytes {
+        return VmdPlace::Refused(VmdRefusal::Outside);
+    }
+    VmdPlace::At(at + VmdParsedPropertyFrame::SIZE + bytes)
+}
+
+// The place after n property frames from a place on; refused where one of them does not lie in the file.
+fn walk_frames(file: &[u8], place: usize, n: usize) -> VmdPlace
+    ensures { λ r. ⌜ place-answer r ≡ walk-frames (now (file .entry)) n place ⌝ }
+{
+    let mut at = place;
+    let mut i = 0;
+    while i < n {
+        match next_place(file, at) {
+            VmdPlace::Refused(k) => return VmdPlace::Refused(k),
+            VmdPlace::At(next) => at = next,
+        }
+        i += 1;
+    }
+    VmdPlace::At(at)
+}
+
+// A property frame at a place: its nine bytes lie in the file.
+fn frame_place(file: &[u8], at: usize) -> VmdPlace
+    ensures { λ r. ⌜ place-answer r ≡ frame-place (now (file .entry)) at ⌝ }
+{
+    if holds_frame(file, at) {
+        return VmdPlace::At(at);
+    }
+    VmdPlace::Refused(VmdRefusal::Outside)
+}
+
+// Where property frame i stands: a walk leads to it from the place that the scratch names. Every call for property frames, IK
+// states and IK names goes through here.
 pub fn place_of_property(file: &[u8], section: VmdSection, scratch: &[u64], i: usize) -> VmdPlace
     ensures { λ r. ⌜ place-answer r ≡ property-place (extent-is section) (now (scratch .entry)) i (now (file .entry)) ⌝ }
 {
     if i >= (section.count as usize) {
         return VmdPlace::Refused(VmdRefusal::Outside);
     }
-    if scratch.len() <= i {
+    let j = i / FRAMES_PER_PLACE;
+    if scratch.len() <= j {
         return VmdPlace::Refused(VmdRefusal::Outside);
     }
-    let at = scratch[i] as usize;
-    if file.len() < at {
-        return VmdPlace::Refused(VmdRefusal::Outside);
+    match walk_frames(file, scratch[j] as usize, i % FRAMES_PER_PLACE) {
+        VmdPlace::Refused(k) => VmdPlace::Refused(k),
+        VmdPlace::At(at) => frame_place(file, at),
     }
-    if file.len() - at < VmdParsedPropertyFrame::SIZE {
-        return VmdPlace::Refused(VmdRefusal::Outside);
-    }
-    VmdPlace::At(at)
 }
 
 // Where IK state j of property frame i stands.

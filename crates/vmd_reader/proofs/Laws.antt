@@ -10,16 +10,19 @@ use Rattle.vmd_format.specs.Layout.{Layout}
 use Rattle.vmd_format.specs.Refusal.{Refusal, scratch-too-short}
 use Rattle.vmd_format.specs.Answer.{Answer, declined, given, and-then, map-answer, unless}
 use Rattle.vmd_format.specs.Read.{Manner}
-use Rattle.vmd_format.specs.Opening.{Extent, Scan, open-file, scratch-if, scratch-after}
-use Rattle.vmd_format.specs.Places.{scan-file, frame-places, opening-at, open-scan, scan-scratch}
+use Rattle.vmd_format.specs.Opening.{places-needed, Extent, Scan, open-file, scratch-if, scratch-after}
+use Rattle.vmd_format.specs.Places.{scan-file, sixteenth-places, opening-at, open-scan, scan-scratch}
 use Rattle.vmd_format.specs.OpeningLaws.{open-by-places, scratch-by-places}
 use Rattle.vmd_format.specs.FetchLaws.{places-length}
-use Rattle.vmd_format.specs.Fetch.{record-place, fetch, property-place, property-at, fetch-property, fetch-ik-state}
+use Rattle.vmd_format.specs.Fetch.{record-place, fetch, next-place, property-place, property-at, fetch-property, step-property, fetch-ik-state}
 use Rattle.vmd_format.specs.Records.{ik-state}
+use Rattle.vmd_records.specs.declared.VmdParsedPropertyFrame.{VmdParsedPropertyFrame}
+use Rattle.vmd_records.specs.Fields.{property-fields}
 use Rattle.vmd_scan.specs.declared.VmdFrames.{VmdFrames}
 use Rattle.vmd_scan.specs.Frames.{frames-of}
 use Rattle.vmd_places.specs.Meaning.{ik-place}
 use Rattle.vmd_places.proofs.Fields.{ik-is}
+use Rattle.vmd_reader.specs.Meaning.{step-fields}
 
 -- ---- records
 
@@ -55,29 +58,43 @@ property-read p scratch i s = record { read = go (property-place p scratch i s) 
     go (declined k) = refl
     go (given at) = ap given (from-there s at)
 
+-- the step over a frame
+module _ (at : ℕ) (s : List ℕ) where
+  pub step-refused : (k : Refusal) → next-place s at ≡ declined k → declined k ≡ map-answer step-fields (step-property at s)
+  unfolding step-property map-answer
+  step-refused k e = rw e refl
+
+  pub step-found : (l : List ℕ) (x : VmdParsedPropertyFrame) (next : ℕ) → next-place s at ≡ given next → l ≡ drop at s → x ≡ property-fields (property-at l 0)
+      → given (x, next) ≡ map-answer step-fields (step-property at s)
+  unfolding step-property map-answer
+  step-found l x next e h k = rw (e, k, h, from-there s at) refl
+
 pub ik-read : (p : Extent) (scratch : List ℕ) (i j : ℕ) (s : List ℕ) → Read (fetch-ik-state p scratch i j s) (ik-place p scratch i j s) (λ t. ik-state .decode t) s
 ik-read p scratch i j s = record { read = ik-is p scratch i j s }
 
 -- ---- opening
 
-module _ (s : List ℕ) (x : Scan) where
-  pub opens : (places : ℕ) (f : VmdFrames) → x .properties .count ≤ places → f ≡ frames-of s x
+-- with n places needed
+module _ (s : List ℕ) (x : Scan) (n : ℕ) (q : n ≡ places-needed (x .properties .count)) where
+  pub opens : (places : ℕ) (f : VmdFrames) → n ≤ places → f ≡ frames-of s x
       → given (record { scan = x; smallest-frame = f .smallest; largest-frame = f .largest }) ≡ open-scan s places x
   unfolding open-scan opening-at unless frames-of
-  opens places f h e = rw (le-leb (x .properties .count) places h, e)
+  opens places f h e = rw (← q, le-leb n places h, e)
 
-  pub opens-not : (places : ℕ) → places < x .properties .count → declined scratch-too-short ≡ open-scan s places x
+  pub opens-not : (places : ℕ) → places < n → declined scratch-too-short ≡ open-scan s places x
   unfolding open-scan unless
-  opens-not places h = rw (lt-leb (x .properties .count) places h)
+  opens-not places h = rw (← q, lt-leb n places h)
 
-  pub fills : (scratch l : List ℕ) → x .properties .count ≤ length scratch
-      → l ≡ frame-places s (x .properties .count) (x .properties .place) ++ drop (x .properties .count) scratch → l ≡ scan-scratch s scratch (given x)
+  pub fills : (scratch l : List ℕ) → n ≤ length scratch
+      → l ≡ sixteenth-places s (places-needed (x .properties .count)) (x .properties .place) ++ drop (places-needed (x .properties .count)) scratch
+      → l ≡ scan-scratch s scratch (given x)
   unfolding scan-scratch scratch-if
-  fills scratch l h e = rw (le-leb (x .properties .count) (length scratch) h, places-length s (x .properties .count) (x .properties .place)) e
+  fills scratch l h e =
+      rw (le-leb (places-needed (x .properties .count)) (length scratch) (rw (← q) h), places-length s (places-needed (x .properties .count)) (x .properties .place)) e
 
-  pub fills-not : (scratch : List ℕ) → length scratch < x .properties .count → scratch ≡ scan-scratch s scratch (given x)
+  pub fills-not : (scratch : List ℕ) → length scratch < n → scratch ≡ scan-scratch s scratch (given x)
   unfolding scan-scratch scratch-if
-  fills-not scratch h = rw (lt-leb (x .properties .count) (length scratch) h)
+  fills-not scratch h = rw (← q, lt-leb n (length scratch) h)
 
 module _ (m : Manner) (s : List ℕ) where
   pub open-refused : (places : ℕ) (k : Refusal) → scan-file m s ≡ declined k → declined k ≡ open-file m s places

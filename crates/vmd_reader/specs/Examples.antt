@@ -1,6 +1,6 @@
 -- What the answers of the reader mean, with other values in every field and place, so that one out of its place shows.
 use mathlib.Core.Path.{_≡_, refl}
-use mathlib.Core.Bool.{_&&_}
+use mathlib.Core.Bool.{true, _&&_}
 use lib.Dec.{eqb, T}
 use Rattle.vmd_format.specs.Refusal.{number, outside, scratch-too-short}
 use Rattle.vmd_format.specs.Answer.{declined, given}
@@ -9,8 +9,10 @@ use Rattle.vmd_base.specs.declared.VmdRefusal.the-variants.{FileEndsEarly, Magi
 use Rattle.vmd_reader.specs.declared.VmdOpened.the-variants as opened
 use Rattle.vmd_reader.specs.declared.VmdBoneAnswer.the-variants as bone
 use Rattle.vmd_reader.specs.declared.VmdMorphAnswer.the-variants as morph
+use Rattle.vmd_reader.specs.declared.VmdPropertyStep.the-variants as step
 use Rattle.vmd_reader.specs.declared.VmdIkStateAnswer.the-variants as ik-state
-use Rattle.vmd_reader.specs.Meaning.{opening-answer, bone-answer, morph-answer, ik-state-answer}
+use Rattle.vmd_records.specs.Fields.{property-fields}
+use Rattle.vmd_reader.specs.Meaning.{opening-answer, bone-answer, morph-answer, step-fields, step-answer, ik-state-answer}
 
 -- the numbers of document 01's table, and those of 02 a) and e)
 pub numbers : T (
@@ -70,3 +72,11 @@ pub answers :
     × (morph-answer (morph.Found (record { frame = 1; weight = 2 })) ≡ given (record { frame = 1; weight = 2 }))
     × (ik-state-answer (ik-state.Refused Outside) ≡ declined outside)
 answers = (refl, refl, refl)
+
+-- a property frame with the place of the next one
+pub steps :
+    (step-answer (step.Found (record { frame = 1; visible = true; «ik_count» = 2 }) 3) ≡ given (record { frame = 1; visible = true; «ik_count» = 2 }, 3))
+    × (step-answer (step.Refused Outside) ≡ declined outside)
+    × (step-fields (record { head = record { frame = 1; visible = true; ik-count = 2 }; next = 3 }) ≡ (record { frame = 1; visible = true; «ik_count» = 2 }, 3))
+unfolding property-fields
+steps = (refl, refl, refl)

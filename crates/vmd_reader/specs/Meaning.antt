@@ -1,7 +1,10 @@
 -- What the types of the reader mean in the terms of the format, by cases. Definitions only.
+use Prim.Native.Nat.{ℕ}
 use Rattle.vmd_format.specs.Answer.{Answer, declined, given}
 use Rattle.vmd_format.specs.Opening.{Opening}
+use Rattle.vmd_format.specs.Fetch.{PropertyStep}
 use Rattle.vmd_base.specs.Meaning.{refusal-of}
+use Rattle.vmd_records.specs.Fields.{property-fields}
 use Rattle.vmd_scan.specs.Meaning.{scan-is}
 use Rattle.vmd_records.specs.declared.VmdParsedBoneFrame.{VmdParsedBoneFrame}
 use Rattle.vmd_records.specs.declared.VmdParsedMorphFrame.{VmdParsedMorphFrame}
@@ -28,6 +31,8 @@ use Rattle.vmd_reader.specs.declared.VmdSelfShadowAnswer.{VmdSelfShadowA
 use Rattle.vmd_reader.specs.declared.VmdSelfShadowAnswer.the-variants as self-shadow
 use Rattle.vmd_reader.specs.declared.VmdPropertyAnswer.{VmdPropertyAnswer}
 use Rattle.vmd_reader.specs.declared.VmdPropertyAnswer.the-variants as property
+use Rattle.vmd_reader.specs.declared.VmdPropertyStep.{VmdPropertyStep}
+use Rattle.vmd_reader.specs.declared.VmdPropertyStep.the-variants as step
 use Rattle.vmd_reader.specs.declared.VmdIkStateAnswer.{VmdIkStateAnswer}
 use Rattle.vmd_reader.specs.declared.VmdIkStateAnswer.the-variants as ik-state
 
@@ -65,6 +70,14 @@ self-shadow-answer (self-shadow.Found x) = given x
 abbrev pub property-answer : VmdPropertyAnswer → Answer VmdParsedPropertyFrame
 property-answer (property.Refused k) = declined (refusal-of k)
 property-answer (property.Found x) = given x
+
+-- the fields of a property frame, and the place of the next one
+abbrev pub step-fields : PropertyStep → VmdParsedPropertyFrame × ℕ
+step-fields x = (property-fields (x .head), x .next)
+
+abbrev pub step-answer : VmdPropertyStep → Answer (VmdParsedPropertyFrame × ℕ)
+step-answer (step.Refused k) = declined (refusal-of k)
+step-answer (step.Found x next) = given (x, next)
 
 abbrev pub ik-state-answer : VmdIkStateAnswer → Answer VmdParsedIkState
 ik-state-answer (ik-state.Refused k) = declined (refusal-of k)

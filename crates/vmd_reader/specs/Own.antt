@@ -1,9 +1,10 @@
 -- "With the file's own opening and scratch, the calls for records, names and interpolation bytes return just these, and the
 -- file's model name": what the contracts of the calls say of an accepted file, call by call and number by number, in every
 -- manner of reading.
-use Prim.Native.Nat.{ℕ, _≤_, _<_}
+use Prim.Native.Nat.{ℕ, _+_, _*_, _≤_, _<_}
 use mathlib.Core.Path.{_≡_}
-use mathlib.Core.List.{List, []}
+use mathlib.Core.List.{List, [], _∷_}
+use native.Mathlib.Omega.{arith}
 use lib.ListN.{length, getD}
 use Rattle.vmd_format.specs.Layout.{Layout}
 use Rattle.vmd_format.specs.Refusal.{outside}
@@ -12,9 +13,10 @@ use Rattle.vmd_format.specs.Records.{IkState, Property, bone, morph, camera, li
 use Rattle.vmd_format.specs.Read.{Manner}
 use Rattle.vmd_format.specs.Take.{Take, read-take}
 use Rattle.vmd_format.specs.Opening.{Extent, Opening, open-file, scratch-after}
-use Rattle.vmd_format.specs.Fetch.{fetch, or-empty, model-of, fetch-property, fetch-ik-state}
-use Rattle.vmd_format.specs.FetchLaws.{Fetches, FetchesProperties, own-records, head-of, fetches-fields, fetches-part, past-fields, past-part}
+use Rattle.vmd_format.specs.Fetch.{fetch, or-empty, model-of, fetch-property, step-property, fetch-ik-state}
+use Rattle.vmd_format.specs.FetchLaws.{Fetches, FetchesProperties, Steps, own-records, head-of, fetches-fields, fetches-part, past-fields, past-part}
 use Rattle.vmd_records.specs.Fields.{bone-fields, morph-fields, camera-fields, light-floats, light-bits, self-shadow-fields, property-fields, ik-fields}
+use Rattle.vmd_reader.specs.Meaning.{step-fields}
 
 -- ---- definitions
 
@@ -28,6 +30,19 @@ pub record GivesPart {A : Type 0} (part : A → List ℕ) (l : List A) (call : �
   pub own : (i : ℕ) (d : A) → i < length l → call i ≡ part (getD l i d)
   pub past : (i : ℕ) → length l ≤ i → call i ≡ []
 
+-- the call for a property frame at a place, and those for its IK states with its place alone as scratch, whatever the section's
+-- place: the fields of a frame, the place of the next one, the frame's states and their names
+pub record GivesStep (s : List ℕ) (at : ℕ) (p : Property) (next : ℕ) : Type 0 where
+  pub frame : map-answer step-fields (step-property at s) ≡ given (property-fields (head-of p), next)
+  pub ik-state : (place : ℕ) → Gives ik-fields (p .ik-states) (λ j. map-answer ik-fields (fetch-ik-state (record { count = 1; place = place }) (at ∷ []) 0 j s))
+  pub ik-name : (place : ℕ)
+      → GivesPart (λ x. x .name) (p .ik-states) (λ j. or-empty (map-answer (λ x. x .name) (fetch-ik-state (record { count = 1; place = place }) (at ∷ []) 0 j s)))
+
+-- these calls from a place on, each at the place that the one before it gave: the frames of a list
+abbrev pub GivesSteps : List ℕ → ℕ → List Property → Type 0
+GivesSteps s at [] = Unit {0}
+GivesSteps s at (p ∷ l) = let next = at + 9 + 21 * length (p .ik-states) in GivesStep s at p next × GivesSteps s next l
+
 -- what each call answers for the file s, with an opening o and a scratch, in the words of its contract: the take t
 pub record Calls (s : List ℕ) (o : Opening) (scratch : List ℕ) (t : Take) : Type 0 where
   pub bone-frame : Gives bone-fields (t .bones) (λ i. map-answer bone-fields (fetch bone (o .scan .bones) i s))
@@ -39,6 +54,7 @@ pub record Calls (s : List ℕ) (o : Opening) (scratch : List ℕ) (t : Take) : 
       Gives self-shadow-fields (t .self-shadows) (λ i. map-answer self-shadow-fields (fetch self-shadow (o .scan .self-shadows) i s))
   pub property-frame :
       Gives (λ p. property-fields (head-of p)) (t .properties) (λ i. map-answer property-fields (fetch-property (o .scan .properties) scratch i s))
+  pub property-frame-at : GivesSteps s (o .scan .properties .place) (t .properties)
   pub ik-state : (i : ℕ) (d : Property) → i < length (t .properties)
       → Gives ik-fields (getD (t .properties) i d .ik-states) (λ j. map-answer ik-fields (fetch-ik-state (o .scan .properties) scratch i j s))
   pub ik-state-past : (i j : ℕ) → length (t .properties) ≤ i
@@ -91,6 +107,18 @@ module _ {p : Extent} {scratch s : List ℕ} {l : List Property} (h : FetchesPro
   unfolding or-empty
   past-name i j k = rw (past-state (λ x. x .name) i j k)
 
+gives-steps : (s : List ℕ) (at : ℕ) (l : List Property) → Steps s at l → GivesSteps s at l
+unfolding map-answer
+gives-steps s at [] h = tt
+gives-steps s at (p ∷ l) (h, rest) = (
+  record {
+    frame = rw (h .step);
+    ik-state = λ place. gives-state (h .alone place) ik-fields 0 p (omega arith);
+    ik-name = λ place. gives-name (h .alone place) 0 p (omega arith);
+  },
+  gives-steps s _ l rest,
+)
+
 -- of a file that reads as the take t, with the opening that was given and the scratch that this left
 pub own-calls : (m : Manner) (s scratch : List ℕ) (o : Opening) (t : Take) → read-take m s ≡ given t
     → open-file m s (length scratch) ≡ given o → Calls s o (scratch-after m s scratch) t
@@ -104,6 +132,7 @@ own-calls m s scratch o t reads opened =
       light-frame-bits = gives (h .lights) light-bits;
       self-shadow-frame = gives (h .self-shadows) self-shadow-fields;
       property-frame = gives-frame (h .properties);
+      property-frame-at = gives-steps s _ (t .properties) (h .steps);
       ik-state = gives-state (h .properties) ik-fields;
       ik-state-past = past-state (h .properties) ik-fields;
       bone-name = gives-part (h .bones) (λ x. x .name);

@@ -22,13 +22,13 @@ ghost use Rattle.vmd_format.specs.Read.{lenient};
 ghost use Rattle.vmd_format.specs.Opening.{open-file, scratch-after};
 ghost use Rattle.vmd_format.specs.Places.{open-scan, scan-scratch};
 ghost use Rattle.vmd_format.specs.ScanLaws.{Inside};
-ghost use Rattle.vmd_format.specs.Fetch.{record-place, fetch, or-empty, model-of, fetch-property, fetch-ik-state};
+ghost use Rattle.vmd_format.specs.Fetch.{record-place, fetch, or-empty, model-of, fetch-property, step-property, fetch-ik-state};
 ghost use Rattle.vmd_records.specs.Fields.{bone-fields, morph-fields, camera-fields, light-floats, light-bits, self-shadow-fields, property-fields, ik-fields};
 ghost use Rattle.vmd_base.specs.Meaning.{manner-of};
 ghost use Rattle.vmd_places.specs.Meaning.{ik-place};
 ghost use Rattle.vmd_places.specs.Parts.{file-part, part-in};
 ghost use Rattle.vmd_scan.specs.Meaning.{scan-is};
-ghost use Rattle.vmd_reader.specs.Meaning.{opening-is, opening-answer, bone-answer, morph-answer, camera-answer, light-answer, light-bits-answer, self-shadow-answer, property-answer, ik-state-answer};
+ghost use Rattle.vmd_reader.specs.Meaning.{opening-is, opening-answer, bone-answer, morph-answer, camera-answer, light-answer, light-bits-answer, self-shadow-answer, property-answer, step-fields, step-answer, ik-state-answer};
 
 // What opening gives: the sections' counts and places, the number of IK states, and the smallest and the largest frame.
 pub struct VmdOpening {
@@ -77,6 +77,15 @@ pub enum VmdPropertyAnswer {
     Found(VmdParsedPropertyFrame),
 }
 
+// A property frame, and the place of the next one.
+pub enum VmdPropertyStep {
+    Refused(VmdRefusal),
+    Found {
+        frame: VmdParsedPropertyFrame,
+        next: usize,
+    },
+}
+
 pub enum VmdIkStateAnswer {
     Refused(VmdRefusal),
     Found(VmdParsedIkState),
@@ -84,20 +93,18 @@ pub enum VmdIkStateAnswer {
 
 // ---- opening
 
-// The opening of a file that was scanned: the property frames' positions go into scratch.
+// The opening of a file that was scanned: the positions of every sixteenth property frame go into scratch.
 fn open_sections(file: &[u8], sections: VmdSections, scratch: &mut [u64]) -> VmdOpened
     requires { ⌜ Inside (now file) (scan-is sections) ⌝ }
     ensures { λ r. ⌜ opening-answer r ≡ open-scan (now (file .entry)) (length (now (scratch .entry))) (scan-is sections) ⌝ }
     ensures { λ r. ⌜ now (scratch .exit) ≡ scan-scratch (now (file .entry)) (now (scratch .entry)) (given (scan-is sections)) ⌝ }
 {
     let properties = sections.properties;
-    let n = properties.count as usize;
-    let place = properties.place;
-    if scratch.len() < n {
+    if scratch.len() < vmd_scan::places_needed(properties.count) {
         return VmdOpened::Refused(VmdRefusal::ScratchTooShort);
     }
     let frames = vmd_scan::frames_of(file, sections);
-    vmd_scan::write_frame_places(file, place, n, scratch);
+    vmd_scan::write_frame_places(file, properties, scratch);
     VmdOpened::Opened(VmdOpening {
         sections,
         min_frame: frames.smallest,
@@ -105,8 +112,8 @@ fn open_sections(file: &[u8], sections: VmdSections, scratch: &mut [u64]) -> Vmd
     })
 }
 
-// Checks a whole file in a manner of reading. scratch receives the position of each property frame, first places first; a
-// refusal leaves it as it was.
+// Checks a whole file in a manner of reading. Place j of scratch receives the position of property frame 16j; a refusal leaves
+// all of it as it was.
 pub fn open_file(file: &[u8], manner: VmdManner, scratch: &mut [u64]) -> VmdOpened
     ensures { λ r. ⌜ opening-answer r ≡ open-file (manner-of manner) (now (file .entry)) (length (now (scratch .entry))) ⌝ }
     ensures { λ r. ⌜ now (scratch .exit) ≡ scratch-after (manner-of manner) (now (file .entry)) (now (scratch .entry)) ⌝ }
@@ -231,6 +238,20 @@ pub fn property_frame(
                 file,
                 at,
             ))),
+    }
+}
+
+// The property frame at a place, all of it in the file, and the place of the next one: the frames of a section one after
+// another, from its place on.
+pub fn property_frame_at(file: &[u8], place: usize) -> VmdPropertyStep
+    ensures { λ r. ⌜ step-answer r ≡ map-answer step-fields (step-property place (now (file .entry))) ⌝ }
+{
+    match vmd_places::next_place(file, place) {
+        VmdPlace::Refused(k) => VmdPropertyStep::Refused(k),
+        VmdPlace::At(next) => VmdPropertyStep::Found {
+            frame: VmdParsedPropertyFrame::from_bytes(vmd_places::bytes_from(file, place)),
+            next,
+        },
     }
 }
 

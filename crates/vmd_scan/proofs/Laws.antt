@@ -1,5 +1,5 @@
 -- Laws of scanning: its steps make the format's scan, turns of the loops over frames, and what callers know of a scan. Assumes nothing.
-use Prim.Native.Nat.{ℕ, suc, _+_, _*_, _-_, _≤_, _<_}
+use Prim.Native.Nat.{ℕ, zero, suc, _+_, _*_, _-_, _≤_, _<_, min}
 use mathlib.Core.Path.{_≡_, refl, sym, ap, _∙_}
 use mathlib.Core.Bool.{Bool, true, false}
 use mathlib.Core.List.{List, [], _∷_, _++_, append-assoc}
@@ -15,9 +15,11 @@ use Rattle.vmd_format.specs.Refusal.{Refusal, file-ends-early}
 use Rattle.vmd_format.specs.Answer.{Answer, declined, given, and-then, map-answer}
 use Rattle.vmd_format.specs.Read.{Oversized, refuse, Manner}
 use Rattle.vmd_format.specs.Take.{sections}
+use Rattle.vmd_format.specs.Opening.{places-needed}
 use Rattle.vmd_format.specs.Fetch.{model-of}
-use Rattle.vmd_format.specs.Places.{header-place, HeaderPlaces, header-places, Span, extent-in, no-span, records-span, count-span, span, optional-if, optional-span, walk, scan-sections, next-frame, frame-places, Reaches}
+use Rattle.vmd_format.specs.Places.{header-place, HeaderPlaces, header-places, Span, extent-in, no-span, records-span, count-span, span, optional-if, optional-span, walk, scan-sections, next-frame, Reaches, frame-end, sixteenth-places}
 use Rattle.vmd_format.specs.PlacesLaws.{Holds, Within, optional-within, walk-next}
+use Rattle.vmd_format.specs.WalkLaws.{reaches-split}
 use Rattle.vmd_format.specs.ScanLaws.{Headed, headed, no-model}
 use Rattle.vmd_places.specs.Parts.{file-part, Cuts, name-in}
 use Rattle.vmd_places.proofs.Parts.{front-name, no-bytes, front-cuts}
@@ -176,19 +178,40 @@ module _ (s : List ℕ) (n i at : ℕ) (h : i < n) where
   unfolding Reaches
   reaches-next r = rw left at r
 
-  pub places-next : (scratch all : List ℕ) → i < length scratch → take i scratch ++ (frame-places s (n - i) at ++ drop n scratch) ≡ all
-      → take (i + 1) (set scratch i at) ++ (frame-places s (n - (i + 1)) (next-frame s at) ++ drop n (set scratch i at)) ≡ all
-  unfolding frame-places
-  places-next scratch all l q =
-      let p : take i scratch ++ (at ∷ (frame-places s (n - (i + 1)) (next-frame s at) ++ drop n scratch)) ≡ all = rw left at q in
-      let t : take (i + 1) (set scratch i at) ≡ take i scratch ++ (at ∷ []) = rw add-one (take-suc-set scratch i at l) in
-      rw (t, drop-set-lt n scratch i at h, append-assoc) p
+  pub frame-end-next : frame-end s (n - i) at ≡ frame-end s (n - (i + 1)) (next-frame s at)
+  unfolding frame-end
+  frame-end-next = rw left
 
--- all n frames have been passed
-pub places-done : (s : List ℕ) (n i at : ℕ) (scratch all : List ℕ) → i ≡ n → take i scratch ++ (frame-places s (n - i) at ++ drop n scratch) ≡ all → scratch ≡ all
-unfolding frame-places
-places-done s n i at scratch all h q =
-    let z : n - i ≡ 0 = omega arith in
+pub frame-end-done : (s : List ℕ) (n at : ℕ) → n ≡ 0 → frame-end s n at ≡ at
+unfolding frame-end
+frame-end-done s n at e = rw e
+
+-- a turn of the loop over the n places of k frames that is at place j, with m frames left
+module _ (s : List ℕ) (k n j m at : ℕ) (f : n ≡ places-needed k) (h : j < n) (e : m ≡ k - 16 * j) where
+  pub reaches-more : Reaches s m at → Reaches s (min m 16) at × Reaches s (m - min m 16) (frame-end s (min m 16) at)
+  reaches-more r = let q : m ≡ min m 16 + (m - min m 16) = omega arith in reaches-split s (min m 16) (m - min m 16) at (rw q at r)
+
+  -- sixteen frames are walked over, but after the last place
+  places-rest : (i : ℕ) → i ≡ n - (j + 1) → sixteenth-places s i (frame-end s 16 at) ≡ sixteenth-places s i (frame-end s (min m 16) at)
+  unfolding sixteenth-places places-needed
+  places-rest zero q = refl
+  places-rest (suc i) q = let w : min m 16 ≡ 16 = omega (arith, f) in rw w
+
+  pub places-next : (scratch all : List ℕ) → j < length scratch → take j scratch ++ (sixteenth-places s (n - j) at ++ drop n scratch) ≡ all
+      → take (j + 1) (set scratch j at) ++ (sixteenth-places s (n - (j + 1)) (frame-end s (min m 16) at) ++ drop n (set scratch j at)) ≡ all
+  unfolding sixteenth-places
+  places-next scratch all l q =
+      let i = n - (j + 1) in
+      let left : n - j ≡ suc i = omega arith in
+      let p : take j scratch ++ (at ∷ (sixteenth-places s i (frame-end s 16 at) ++ drop n scratch)) ≡ all = rw left at q in
+      let t : take (j + 1) (set scratch j at) ≡ take j scratch ++ (at ∷ []) = rw add-one (take-suc-set scratch j at l) in
+      rw (t, drop-set-lt n scratch j at h, append-assoc, ← places-rest i refl) p
+
+-- all n places are written
+pub places-done : (s : List ℕ) (n j at : ℕ) (scratch all : List ℕ) → j ≡ n → take j scratch ++ (sixteenth-places s (n - j) at ++ drop n scratch) ≡ all → scratch ≡ all
+unfolding sixteenth-places
+places-done s n j at scratch all h q =
+    let z : n - j ≡ 0 = omega arith in
     sym (take-append-drop n scratch) ∙ (rw (z, h) at q)
 
 -- ---- records of one size

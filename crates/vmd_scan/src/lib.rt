@@ -1,5 +1,6 @@
 // Finding the sections of a file by places: the cursor, the header, the section counts and the property frames. Internal:
 // callers see to the lengths where a contract asks it.
+use vmd_base::FRAMES_PER_PLACE;
 use vmd_base::MAGIC_COMPARED;
 use vmd_base::MAGIC_SIZE;
 use vmd_base::OLDER_MAGIC;
@@ -25,7 +26,8 @@ ghost use lib.ListN.{length, drop};
 ghost use Rattle.vmd_format.specs.Answer.{given, map-answer};
 ghost use Rattle.vmd_format.specs.Take.{model-width};
 ghost use Rattle.vmd_format.specs.Fetch.{model-of};
-ghost use Rattle.vmd_format.specs.Places.{header-place, place-past, header-places, no-span, over-span, span, optional-span, walk, over-if, scan-sections, scan-file, next-frame, frame-places, scan-frames, Reaches};
+ghost use Rattle.vmd_format.specs.Places.{header-place, place-past, header-places, no-span, over-span, span, optional-span, walk, over-if, scan-sections, scan-file, next-frame, frame-end, sixteenth-places, scan-frames, Reaches};
+ghost use Rattle.vmd_format.specs.Opening.{places-needed};
 ghost use Rattle.vmd_format.specs.ScanLaws.{ExtentWithin, Inside};
 ghost use Rattle.vmd_base.specs.Meaning.{edition-is, manner-of, extent-is};
 ghost use Rattle.vmd_records.specs.Kinds.{size-of};
@@ -370,17 +372,42 @@ pub fn next_property_frame(file: &[u8], at: usize) -> usize
     at + VmdParsedPropertyFrame::SIZE + (count as usize) * VmdParsedIkState::SIZE
 }
 
-// The position of each of n property frames, into the first places of scratch.
-pub fn write_frame_places(file: &[u8], place: usize, n: usize, scratch: &mut [u64])
-    requires { ⌜ (n ≤ length (now scratch)) × (Reaches (now file) n place) ⌝ }
-    ensures { λ _. ⌜ now (scratch .exit) ≡ frame-places (now (file .entry)) n place ++ drop n (now (scratch .entry)) ⌝ }
+// Where n property frames from a place on end.
+fn frame_end(file: &[u8], place: usize, n: usize) -> usize
+    requires { ⌜ Reaches (now file) n place ⌝ }
+    ensures { λ r. ⌜ r ≡ frame-end (now (file .entry)) n place ⌝ }
 {
     let mut at = place;
     let mut i = 0;
     while i < n {
-        scratch[i] = at as u64;
         at = next_property_frame(file, at);
         i += 1;
+    }
+    at
+}
+
+// The places that the property frames of a section need in scratch: a sixteenth of their number, rounded up.
+pub fn places_needed(count: u32) -> usize
+    ensures { λ r. ⌜ r ≡ places-needed count ⌝ }
+{
+    ((count as usize) + (FRAMES_PER_PLACE - 1)) / FRAMES_PER_PLACE
+}
+
+// The position of every sixteenth property frame, into the first places of scratch.
+pub fn write_frame_places(file: &[u8], section: VmdSection, scratch: &mut [u64])
+    requires { ⌜ (places-needed (section .count) ≤ length (now scratch)) × (Reaches (now file) (section .count) (section .place)) ⌝ }
+    ensures { λ _. ⌜ now (scratch .exit) ≡ sixteenth-places (now (file .entry)) (places-needed (section .count)) (section .place) ++ drop (places-needed (section .count)) (now (scratch .entry)) ⌝ }
+{
+    let n = places_needed(section.count);
+    let mut left = section.count;
+    let mut at = section.place;
+    let mut j = 0;
+    while j < n {
+        scratch[j] = at as u64;
+        let walked = vmd_bytes::smaller(left, FRAMES_PER_PLACE as u32);
+        at = frame_end(file, at, walked as usize);
+        left -= walked;
+        j += 1;
     }
 }
 

@@ -1,7 +1,7 @@
 //! One file of either edition through every call of the reader and the exporter, converted, split into parts, and added to a
 //! season.
 
-use crate::check::{check_size, check_written, same, Checked};
+use crate::check::{check_size, check_written, same, Checked, SLOT};
 use crate::lent::{Input, Output, Scratch};
 use crate::library::{self, Opening};
 use crate::season::SeasonCheck;
@@ -15,8 +15,11 @@ use oracle::older::{self, is_older};
 use oracle::original::{self, MAGIC_DIFFERS, MODEL_NAME_TOO_LONG};
 
 const OUTSIDE: u32 = 4;
-const SCRATCH_TOO_SHORT: u32 = 3;
+pub const SCRATCH_TOO_SHORT: u32 = 3;
 const UNSET: u32 = 0xdead_beef;
+
+/// By request f) a scratch has a place for the first of each sixteen property frames.
+pub const PER_PLACE: usize = 16;
 
 #[derive(Default)]
 pub struct FileCheck {
@@ -24,6 +27,8 @@ pub struct FileCheck {
     output: Output,
     scratch: Scratch,
     pub records: u64,
+    /// Accepted files with more property frames than one place is for.
+    pub several_places: u64,
     pub editions: EditionTally,
     pub lights: LightNans,
     pub split: SplitCheck,
@@ -109,22 +114,22 @@ impl FileCheck {
 
     fn check_accepted(&mut self, file: &[u8], take: &VmdParsedAnimation) -> Checked {
         let (opening, positions) = opening_of(file, take);
-        let frames = positions.len();
-        for places in [frames, frames + 3] {
+        let scratch: Vec<u64> = positions.into_iter().step_by(PER_PLACE).collect();
+        for places in [scratch.len(), scratch.len() + 3] {
             let mut ours = unset_opening();
             let answer = library::parse_animation(file, self.scratch.lend(places), &mut ours);
             same("opening: answer", answer, 0)?;
             same("opening", &ours, &opening)?;
-            self.scratch.holds(&positions).map_err(|difference| format!("opening: {difference}"))?;
+            self.scratch.holds(&scratch).map_err(|difference| format!("opening: {difference}"))?;
         }
-        if frames > 0 {
-            self.check_opening_refused(file, frames - 1, SCRATCH_TOO_SHORT)?;
+        if let Some(short) = scratch.len().checked_sub(1) {
+            self.check_opening_refused(file, short, SCRATCH_TOO_SHORT)?;
         }
-        self.check_records(file, take, &opening, &positions)
+        self.several_places += (scratch.len() > 1) as u64;
+        self.check_records(take, Opened { file, opening: &opening, scratch: &scratch })
     }
 
-    fn check_records(&mut self, file: &[u8], take: &VmdParsedAnimation, opening: &Opening, positions: &[u64]) -> Checked {
-        let opened = Opened { file, opening, positions };
+    fn check_records(&mut self, take: &VmdParsedAnimation, opened: Opened) -> Checked {
         for (i, frame) in take.bone_frames.iter().enumerate() {
             opened.check_bone(i, frame)?;
         }
@@ -143,7 +148,8 @@ impl FileCheck {
         for (i, frame) in take.property_frames.iter().enumerate() {
             opened.check_property(i, frame)?;
         }
-        self.records += opening.counts.iter().map(|&count| count as u64).sum::<u64>() + opening.totals[0];
+        opened.check_one_after_another(&take.property_frames)?;
+        self.records += opened.opening.counts.iter().map(|&count| count as u64).sum::<u64>() + opened.opening.totals[0];
         opened.check_past_the_ends()
     }
 }
@@ -173,13 +179,22 @@ fn opening_of_newer(file: &[u8], take: &VmdParsedAnimation) -> (Opening, Vec<u64
     let mut at = places[5];
     let positions = take.property_frames.iter().map(|frame| {
         let position = at;
-        at += (SIZES[5] + IK_STATE_SIZE * frame.ik_states.len()) as u64;
+        at += size_of(frame);
         position
     });
     let positions = positions.collect();
     let ik_states: usize = take.property_frames.iter().map(|frame| frame.ik_states.len()).sum();
     let totals = [ik_states as u64, original::smallest_frame(take) as u64, take.metadata.max_frame as u64];
     (Opening { counts: counts.map(|count| count as u32), places, totals }, positions)
+}
+
+/// A property frame's bytes, its IK states included.
+fn size_of(frame: &VmdParsedPropertyFrame) -> u64 {
+    (SIZES[5] + IK_STATE_SIZE * frame.ik_states.len()) as u64
+}
+
+fn property_record(frame: &VmdParsedPropertyFrame) -> [u32; 3] {
+    [frame.frame, frame.visible as u32, frame.ik_states.len() as u32]
 }
 
 /// The part's bytes.
@@ -222,7 +237,7 @@ fn bits<const N: usize>(values: [f32; N]) -> [u32; N] {
 struct Opened<'a> {
     file: &'a [u8],
     opening: &'a Opening,
-    positions: &'a [u64],
+    scratch: &'a [u64],
 }
 
 impl Opened<'_> {
@@ -275,21 +290,44 @@ impl Opened<'_> {
         same("self-shadow", record, [frame.frame, frame.mode as u32, frame.distance.to_bits()])
     }
 
+    /// With a scratch that ends after the frame's place, and with one that ends before it.
     fn check_property(&self, i: usize, frame: &VmdParsedPropertyFrame) -> Checked {
+        let (enough, short) = (&self.scratch[..=i / PER_PLACE], &self.scratch[..i / PER_PLACE]);
         let mut record = [UNSET; 3];
-        let answer = library::property_frame(self.file, self.opening, self.positions, i, &mut record);
+        let answer = library::property_frame(self.file, self.opening, enough, i, &mut record);
         same("property: answer", answer, 0)?;
-        let ik_states = frame.ik_states.len();
-        same("property", record, [frame.frame, frame.visible as u32, ik_states as u32])?;
+        same("property", record, property_record(frame))?;
+        self.check_ik_states(i, frame)?;
+        self.check_no_property(short, i)
+    }
+
+    fn check_ik_states(&self, i: usize, frame: &VmdParsedPropertyFrame) -> Checked {
         for (j, state) in frame.ik_states.iter().enumerate() {
             let mut enabled = UNSET;
-            let answer = library::ik_state(self.file, self.opening, self.positions, i, j, &mut enabled);
+            let answer = library::ik_state(self.file, self.opening, self.scratch, i, j, &mut enabled);
             same("IK state: answer", answer, 0)?;
             same("IK state: enabled", enabled, state.enabled as u32)?;
-            self.check_part("IK name", library::ik_name(self.file, self.opening, self.positions, i, j), &state.bone_name_bytes)?;
+            self.check_part("IK name", library::ik_name(self.file, self.opening, self.scratch, i, j), &state.bone_name_bytes)?;
         }
-        self.check_no_ik_state(self.positions, i, ik_states)?;
-        self.check_no_property(&self.positions[..i], i)
+        self.check_no_ik_state(self.scratch, i, frame.ik_states.len())
+    }
+
+    /// From the properties' place on, by place alone; the IK states with a count of one frame and a scratch of its place.
+    fn check_one_after_another(&self, frames: &[VmdParsedPropertyFrame]) -> Checked {
+        let alone = Opening { counts: [0, 0, 0, 0, 0, 1], ..unset_opening() };
+        let mut place = self.opening.places[5];
+        for frame in frames {
+            let (mut record, mut next) = ([UNSET; 3], SLOT);
+            let answer = library::property_frame_at(self.file, place, &mut record, &mut next);
+            same("property at a place: answer", answer, 0)?;
+            same("property at a place", record, property_record(frame))?;
+            same("the next property's place", next, place + size_of(frame))?;
+            Opened { file: self.file, opening: &alone, scratch: &[place] }.check_ik_states(0, frame)?;
+            check_no_property_at(&self.file[..next as usize - 1], place)?;
+            place = next;
+        }
+        let end = self.file.len() as u64;
+        [end - 8, end, end + 1, u64::MAX - 8, u64::MAX].into_iter().try_for_each(|place| check_no_property_at(self.file, place))
     }
 
     /// Numbers at and above the counts.
@@ -322,7 +360,7 @@ impl Opened<'_> {
             refused("self-shadow", |record: &mut [u32; 3]| library::self_shadow_frame(file, opening, i, record))?;
         }
         for i in past(5) {
-            self.check_no_property(self.positions, i)?;
+            self.check_no_property(self.scratch, i)?;
         }
         Ok(())
     }
@@ -341,8 +379,15 @@ impl Opened<'_> {
     }
 }
 
+/// A place where no whole frame is: refusal 4, both slots unchanged.
+fn check_no_property_at(file: &[u8], place: u64) -> Checked {
+    let mut next = SLOT;
+    refused("property at a place", |record: &mut [u32; 3]| library::property_frame_at(file, place, record, &mut next))?;
+    same("no property at a place: next place", next, SLOT)
+}
+
 /// A fetch of no record: refusal 4, its slot unchanged.
-fn refused<const N: usize>(what: &str, fetch: impl Fn(&mut [u32; N]) -> u32) -> Checked {
+fn refused<const N: usize>(what: &str, fetch: impl FnOnce(&mut [u32; N]) -> u32) -> Checked {
     let mut record = [UNSET; N];
     let answer = fetch(&mut record);
     same(&format!("no {what}: answer"), answer, OUTSIDE)?;

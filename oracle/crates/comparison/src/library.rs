@@ -1,6 +1,7 @@
 //! The proved library behind functions on slices. A self-test has one of its results altered here.
 
 use crate::alter::{altered, Alter};
+use crate::files::{PER_PLACE, SCRATCH_TOO_SHORT};
 use crate::header;
 use crate::header::indices::{VMD_TOTAL_IK_STATES, VMD_TOTAL_LARGEST_FRAME, VMD_TOTAL_SMALLEST_FRAME};
 use oracle::files::{Pieces, MAGIC};
@@ -54,7 +55,8 @@ pub fn parse_animation(file: &[u8], scratch: &mut [u64], opening: &mut Opening) 
         header::vmd_parse_animation(pointer(&read), read.len(), pointer_mut(scratch), scratch.len(), counts, places, totals)
     };
     alter_older_opening(file, answer, scratch, opening);
-    alter_opening(answer, scratch, opening)
+    let answer = alter_opening(answer, scratch, opening);
+    alter_places(file, answer, scratch, opening)
 }
 
 fn older_magic_refused(file: &[u8]) -> bool {
@@ -71,7 +73,7 @@ fn alter_older_opening(file: &[u8], answer: u32, scratch: &mut [u64], opening: &
     if altered(Alter::OlderPlaces) {
         opening.places.iter_mut().for_each(|place| *place += NARROWER as u64);
     } else if altered(Alter::OlderScratch) {
-        scratch.iter_mut().take(opening.counts[5] as usize).for_each(|position| *position += NARROWER as u64);
+        scratch.iter_mut().take(places_of(opening)).for_each(|position| *position += NARROWER as u64);
     }
 }
 
@@ -85,7 +87,7 @@ fn alter_opening(answer: u32, scratch: &mut [u64], opening: &mut Opening) -> u32
     if answer != 0 {
         return answer;
     }
-    let frames = opening.counts[5] as usize;
+    let places = places_of(opening);
     if altered(Alter::OpeningCount) {
         opening.counts[3] += 1;
     } else if altered(Alter::OpeningPlace) {
@@ -102,12 +104,42 @@ fn alter_opening(answer: u32, scratch: &mut [u64], opening: &mut Opening) -> u32
         opening.totals.swap(VMD_TOTAL_SMALLEST_FRAME, VMD_TOTAL_LARGEST_FRAME);
     } else if altered(Alter::LargestFrame) {
         opening.totals[VMD_TOTAL_LARGEST_FRAME] &= 0x7fff_ffff;
-    } else if altered(Alter::ScratchPosition) && frames > 1 {
+    } else if altered(Alter::ScratchPosition) && places > 1 {
         scratch[1] += 21;
-    } else if altered(Alter::ScratchPastItsEnd) && frames < scratch.len() {
-        scratch[frames] = 0;
+    } else if altered(Alter::ScratchPastItsEnd) && places < scratch.len() {
+        scratch[places] = 0;
     }
     answer
+}
+
+fn places_of(opening: &Opening) -> usize {
+    (opening.counts[5] as usize).div_ceil(PER_PLACE)
+}
+
+/// How many places are asked for, and what they hold.
+fn alter_places(file: &[u8], answer: u32, scratch: &mut [u64], opening: &Opening) -> u32 {
+    let frames = || original::read(file).map_or(0, |take| take.property_frames.len());
+    if altered(Alter::ScratchRoundedDown) && answer == SCRATCH_TOO_SHORT && scratch.len() == frames() / PER_PLACE {
+        return 0;
+    }
+    if altered(Alter::ScratchPlaceForEach) && answer == 0 && scratch.len() < frames() {
+        return SCRATCH_TOO_SHORT;
+    }
+    if altered(Alter::ScratchOneMore) && answer == 0 && frames() > 0 && scratch.len() == frames() / PER_PLACE {
+        return SCRATCH_TOO_SHORT;
+    }
+    if altered(Alter::ScratchHoldsEach) && answer == 0 {
+        for place in 1..places_of(opening) {
+            scratch[place] = next_place(file, scratch[place - 1]);
+        }
+    }
+    answer
+}
+
+fn next_place(file: &[u8], place: u64) -> u64 {
+    let mut next = 0;
+    unsafe { header::vmd_property_frame_at(pointer(file), file.len(), place, &mut [0; 3], &mut next) };
+    next
 }
 
 // ---- records by number
@@ -188,6 +220,7 @@ pub fn self_shadow_frame(file: &[u8], opening: &Opening, i: usize, record: &mut 
 
 /// frame, visible, number of IK states
 pub fn property_frame(file: &[u8], opening: &Opening, scratch: &[u64], i: usize, record: &mut [u32; 3]) -> u32 {
+    let (scratch, i) = walked_from(opening, scratch, i);
     unsafe {
         header::vmd_property_frame(
             pointer(file),
@@ -202,6 +235,63 @@ pub fn property_frame(file: &[u8], opening: &Opening, scratch: &[u64], i: usize,
     }
 }
 
+/// The scratch and the number that lead to the frame that a mistaken walk would find.
+fn walked_from<'a>(opening: &Opening, scratch: &'a [u64], i: usize) -> (&'a [u64], usize) {
+    let walked = i % PER_PLACE;
+    if i >= opening.counts[5] as usize || i / PER_PLACE >= scratch.len() {
+        (scratch, i)
+    } else if altered(Alter::FetchPlaceOfNumber) {
+        (scratch.get(i..).unwrap_or(&[]), 0)
+    } else if altered(Alter::FetchFromFirstPlace) {
+        (scratch, walked)
+    } else if altered(Alter::FetchWithoutWalk) {
+        (scratch, i - walked)
+    } else if altered(Alter::FetchWalkTooLong) && walked > 0 {
+        (scratch, i + 1)
+    } else if altered(Alter::FetchWalkOf14) && walked == PER_PLACE - 1 {
+        (scratch, i - 1)
+    } else {
+        (scratch, i)
+    }
+}
+
+/// frame, visible, number of IK states; and the place of the next frame
+pub fn property_frame_at(file: &[u8], place: u64, record: &mut [u32; 3], next: &mut u64) -> u32 {
+    let moved = if altered(Alter::OlderFrameAt) && is_older(file) { NARROWER as u64 } else { 0 };
+    let answer = unsafe { header::vmd_property_frame_at(pointer(file), file.len(), place.wrapping_add(moved), record, next) };
+    if answer != 0 {
+        return alter_no_frame_at(file, place, answer, next);
+    }
+    if altered(Alter::FrameAtVisible) {
+        record[1] ^= 1;
+    } else if altered(Alter::FrameAtNext) {
+        *next += 21;
+    } else if altered(Alter::FrameAtNextWithoutStates) {
+        *next = place + 9;
+    }
+    answer
+}
+
+fn alter_no_frame_at(file: &[u8], place: u64, answer: u32, next: &mut u64) -> u32 {
+    let nine_bytes = place.checked_add(9).is_some_and(|end| end <= file.len() as u64);
+    if altered(Alter::FrameAtInRefusal) {
+        *next = place;
+    }
+    if altered(Alter::FrameAtOutside) && !nine_bytes || altered(Alter::FrameAtStatesCut) && nine_bytes {
+        return 0;
+    }
+    answer
+}
+
+/// The number of the frame whose place the scratch has, for one that is walked to from there.
+fn not_walked(what: Alter, opening: &Opening, i: usize) -> usize {
+    if altered(what) && i < opening.counts[5] as usize {
+        i - i % PER_PLACE
+    } else {
+        i
+    }
+}
+
 pub fn ik_state(file: &[u8], opening: &Opening, scratch: &[u64], i: usize, j: usize, enabled: &mut u32) -> u32 {
     let answer = unsafe {
         header::vmd_ik_state(
@@ -211,7 +301,7 @@ pub fn ik_state(file: &[u8], opening: &Opening, scratch: &[u64], i: usize, j: us
             &opening.places,
             pointer(scratch),
             scratch.len(),
-            i,
+            not_walked(Alter::IkStateWithoutWalk, opening, i),
             j,
             enabled,
         )
@@ -258,7 +348,7 @@ pub fn ik_name(file: &[u8], opening: &Opening, scratch: &[u64], i: usize, j: usi
             &opening.places,
             pointer(scratch),
             scratch.len(),
-            i,
+            not_walked(Alter::IkNameWithoutWalk, opening, i),
             j,
             &mut part,
         )

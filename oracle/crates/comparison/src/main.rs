@@ -1,7 +1,8 @@
 //! The proved library and the original Rust on the same inputs, every result compared.
 //!
 //!     compare N SEED          N files, N part sets, N / 5 older files, N / 10 files whose names repeat, joins, joins with
-//!                             older files and names, beside the fixed inputs
+//!                             older files and names, N / 20 files of up to 70 property frames and N / 100 older ones,
+//!                             beside the fixed inputs
 //!     compare self-test       alters one result after another: each has to be reported
 
 mod alter;
@@ -102,7 +103,8 @@ fn print_older(editions: &files::EditionTally) {
 }
 
 fn print_lights(check: &files::FileCheck) {
-    println!("  {} records and IK states compared", check.records);
+    let (records, several_places) = (check.records, check.several_places);
+    println!("  {records} records and IK states compared, {several_places} accepted files with more than 16 property frames");
     let nans = &check.lights;
     println!("  NaNs of lights through the call with f32 fields: {}, of these {} with other bits", nans.seen, nans.other_bits);
     if let Some((ours, theirs)) = nans.first {

@@ -12,6 +12,7 @@ use oracle::names;
 use oracle::older::{self, narrowed};
 use oracle::part_sets::{self, set_kind, set_of, SetKind, FAULTS, SET_KINDS};
 use oracle::parts::Parts;
+use oracle::properties::{self, UP_TO_70};
 use oracle::random::Random;
 
 /// Random inputs of each run come from streams of their own.
@@ -23,6 +24,8 @@ const FIXED: u64 = 5 << 60;
 const NAMED: u64 = 6 << 60;
 const OLDER: u64 = 7 << 60;
 const OLDER_JOINS: u64 = 8 << 60;
+const PROPERTIES: u64 = 9 << 60;
+const OLDER_PROPERTIES: u64 = 10 << 60;
 
 fn hex(bytes: &[u8]) -> String {
     bytes.iter().map(|byte| format!("{byte:02x}")).collect()
@@ -35,6 +38,7 @@ const EVERY_PREFIX: &str = "every prefix of a take of six sections";
 const EVERY_CHANGE: &str = "every change of one byte of a take";
 const LARGE_COUNTS: &str = "counts that do not fit";
 const MANY_NAMES: &str = "thousands of names";
+const FRAME_NUMBERS: &str = "0 to 70 property frames each, and thousands";
 
 /// A file in a report; a long one by its length alone.
 fn shown_file(file: &[u8]) -> String {
@@ -46,8 +50,8 @@ fn shown_file(file: &[u8]) -> String {
 }
 
 pub fn files(cases: u64, seed: u64) -> (Tally, FileCheck) {
-    let fixed = [DOCUMENT_01, EVERY_PREFIX, EVERY_CHANGE, LARGE_COUNTS, MANY_NAMES];
-    let labels: Vec<&str> = fixed.into_iter().chain(FILE_KINDS.map(FileKind::label)).chain([FEW_NAMES]).collect();
+    let fixed = [DOCUMENT_01, EVERY_PREFIX, EVERY_CHANGE, LARGE_COUNTS, MANY_NAMES, FRAME_NUMBERS];
+    let labels: Vec<&str> = fixed.into_iter().chain(FILE_KINDS.map(FileKind::label)).chain([FEW_NAMES, UP_TO_70]).collect();
     let title = "Files: opening, records, names, export, parts, season figures";
     let (mut tally, mut check) = (Tally::new(title, &labels), FileCheck::default());
     for (label, file) in fixed_files(seed) {
@@ -63,6 +67,10 @@ pub fn files(cases: u64, seed: u64) -> (Tally, FileCheck) {
         let file = named::few_names(&mut Random::for_case(seed, NAMED + case));
         tally.count(FEW_NAMES, check.check(&file), || format!("random names {case}: {}", hex(&file)));
     }
+    for case in 0..cases / 20 {
+        let file = properties::up_to_70(&mut Random::for_case(seed, PROPERTIES + case));
+        tally.count(UP_TO_70, check.check(&file), || format!("random properties {case}: {}", shown_file(&file)));
+    }
     (tally, check)
 }
 
@@ -76,6 +84,7 @@ fn fixed_files(seed: u64) -> impl Iterator<Item = (&'static str, Vec<u8>)> {
         .chain(labelled(EVERY_CHANGE, files::single_byte_changes(&small).collect()))
         .chain(labelled(LARGE_COUNTS, files::large_counts()))
         .chain(labelled(MANY_NAMES, named::many_names(&mut random)))
+        .chain(labelled(FRAME_NUMBERS, properties::every_number(&mut random)))
 }
 
 // ---- older files
@@ -89,8 +98,8 @@ const MIXED_MAGICS: &str = "mixtures of both magics";
 const OLDER_HEAD: usize = 44;
 
 pub fn older_files(cases: u64, seed: u64) -> (Tally, FileCheck) {
-    let fixed = [BARE_LENGTHS, DOCUMENT_01, EVERY_OLDER_PREFIX, EVERY_HEADER_CHANGE, MIXED_MAGICS, LARGE_COUNTS];
-    let drawn = [older::HEADER_CUT, older::HEADER_OTHER, FEW_NAMES];
+    let fixed = [BARE_LENGTHS, DOCUMENT_01, EVERY_OLDER_PREFIX, EVERY_HEADER_CHANGE, MIXED_MAGICS, LARGE_COUNTS, FRAME_NUMBERS];
+    let drawn = [older::HEADER_CUT, older::HEADER_OTHER, FEW_NAMES, UP_TO_70];
     let labels: Vec<&str> = fixed.into_iter().chain(FILE_KINDS.map(FileKind::label)).chain(drawn).collect();
     let title = "Older files, widened for the original: opening, records, names, export, parts, season figures";
     let (mut tally, mut check) = (Tally::new(title, &labels), FileCheck::default());
@@ -100,6 +109,10 @@ pub fn older_files(cases: u64, seed: u64) -> (Tally, FileCheck) {
     for case in 0..cases {
         let (label, file) = older::older_file(&mut Random::for_case(seed, OLDER + case));
         tally.count(label, check.check(&file), || format!("random older file {case}: {}", shown_file(&file)));
+    }
+    for case in 0..cases / 20 {
+        let file = narrowed(&properties::up_to_70(&mut Random::for_case(seed, OLDER_PROPERTIES + case)));
+        tally.count(UP_TO_70, check.check(&file), || format!("random older properties {case}: {}", shown_file(&file)));
     }
     (tally, check)
 }
@@ -117,6 +130,7 @@ fn fixed_older_files(seed: u64) -> impl Iterator<Item = (&'static str, Vec<u8>)>
         .chain(labelled(EVERY_HEADER_CHANGE, changes.collect()))
         .chain(labelled(MIXED_MAGICS, older::mixed_magics(&small)))
         .chain(labelled(LARGE_COUNTS, narrow(files::large_counts())))
+        .chain(labelled(FRAME_NUMBERS, narrow(properties::every_number(&mut random))))
 }
 
 // ---- joins

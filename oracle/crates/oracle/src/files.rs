@@ -358,7 +358,7 @@ fn bytes_changed(random: &mut Random) -> Vec<u8> {
 }
 
 /// A count near the right one, or far too large.
-fn other_count(count: u32, random: &mut Random) -> u32 {
+pub(crate) fn other_count(count: u32, random: &mut Random) -> u32 {
     match random.below(6) {
         0 => count.wrapping_sub(1),
         1 => count + 1,
@@ -424,15 +424,18 @@ fn noise(random: &mut Random) -> Vec<u8> {
 }
 
 fn many_properties(random: &mut Random) -> Vec<u8> {
-    let mut pieces = pieces(1, random);
-    let section = &mut pieces.sections[5];
-    *section = Section::default();
-    section.count = 1 + random.below(40) as u32;
-    for _ in 0..section.count {
-        let ik_states = random.below(4);
+    let (mut pieces, frames) = (pieces(1, random), 1 + random.below(40));
+    put_properties(&mut pieces.sections[5], frames, 3, random);
+    pieces.file()
+}
+
+/// This many frames in place of what the section has, with at most so many IK states each.
+pub(crate) fn put_properties(section: &mut Section, frames: usize, most_states: usize, random: &mut Random) {
+    *section = Section { count: frames as u32, bytes: Vec::new() };
+    for _ in 0..frames {
+        let ik_states = random.below(most_states + 1);
         put_property(&mut section.bytes, ik_states, random);
     }
-    pieces.file()
 }
 
 // ---- fixed files

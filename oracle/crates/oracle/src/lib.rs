@@ -7,4 +7,5 @@ pub mod older;
 pub mod original;
 pub mod part_sets;
 pub mod parts;
+pub mod properties;
 pub mod random;
