@@ -146,6 +146,26 @@ impl Rounds {
     }
 }
 
+/// Tasks on a take, each measured beside a copy of what it reads.
+trait Tasks<T: Copy> {
+    fn run(&mut self, task: T);
+    fn copy(&mut self, task: T);
+
+    /// Warm and cold, task by task.
+    fn times<const N: usize>(&mut self, tasks: [T; N], effort: Effort, other: &Other) -> [[Rounds; 2]; N] {
+        let mut times = tasks.map(|_| <[Rounds; 2]>::default());
+        for _ in 0..effort.rounds {
+            for (task, [warm_rounds, cold_rounds]) in tasks.into_iter().zip(&mut times) {
+                let [cold_copy, warm_copy] = other.cold_and_warm(effort.batch, || self.copy(task));
+                let [cold, warm] = other.cold_and_warm(effort.batch, || self.run(task));
+                warm_rounds.push(warm, warm_copy);
+                cold_rounds.push(cold, cold_copy);
+            }
+        }
+        times
+    }
+}
+
 /// One time by another of the same round: the median, where there are rounds that have both.
 fn ratio(times: &[f64], others: &[f64]) -> Option<f64> {
     let ratios: Vec<_> = times.iter().zip(others).map(|(time, other)| time / other).collect();

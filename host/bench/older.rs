@@ -4,7 +4,7 @@ use std::hint::black_box;
 use crate::calls::Call;
 use crate::measure::Other;
 use crate::takes::{Columns, Kind, Material, Names};
-use crate::{Effort, Rounds, cell, effort, head, ratio, row, shown};
+use crate::{Effort, Rounds, Tasks, cell, effort, head, ratio, row, shown};
 
 /// What is measured.
 #[derive(Clone, Copy)]
@@ -51,7 +51,9 @@ impl Case {
         let file = vmd::export_older(&newer.file).unwrap();
         Case { out: newer.output(), newer, older: Material { file, halves: Vec::new(), columns: Columns::default() } }
     }
+}
 
+impl Tasks<Task> for Case {
     fn run(&mut self, task: Task) {
         match task {
             Task::Export => Call::Export.run(&self.newer, &mut self.out),
@@ -71,21 +73,6 @@ impl Case {
         };
         Call::Open.copy(material, &mut self.out);
     }
-
-    /// Warm and cold, by what is measured.
-    fn times(&mut self, effort: Effort, other: &Other) -> [[Rounds; 2]; 5] {
-        let mut times = <[[Rounds; 2]; 5]>::default();
-        for _ in 0..effort.rounds {
-            for task in Task::ALL {
-                let [cold_copy, warm_copy] = other.cold_and_warm(effort.batch, || self.copy(task));
-                let [cold, warm] = other.cold_and_warm(effort.batch, || self.run(task));
-                let [warm_rounds, cold_rounds] = &mut times[task as usize];
-                warm_rounds.push(warm, warm_copy);
-                cold_rounds.push(cold, cold_copy);
-            }
-        }
-        times
-    }
 }
 
 pub fn table(size: usize, other: &Other) {
@@ -99,7 +86,7 @@ pub fn table(size: usize, other: &Other) {
     );
     head(["take", "call", "by a copy, warm", "by a copy, cold", "by the newer, warm", "by the newer, cold"]);
     for kind in Kind::USUAL {
-        let times = Case::new(kind, size).times(effort, other);
+        let times = Case::new(kind, size).times(Task::ALL, effort, other);
         for task in Task::ALL {
             let (of, newer) = (&times[task as usize], &times[task.with_newer() as usize]);
             let by_copy = of.iter().map(Rounds::ratio);

@@ -6,7 +6,7 @@ use vmd::Take;
 
 use crate::measure::{Other, median};
 use crate::takes::{Kind, Material, Names};
-use crate::{Effort, Rounds, cell, effort, head, row, shown};
+use crate::{Effort, Rounds, Tasks, cell, effort, head, row, shown};
 
 /// What is measured.
 #[derive(Clone, Copy)]
@@ -33,10 +33,19 @@ impl Task {
             Task::StatesInOrder => "frames and IK states in order",
         }
     }
+}
 
-    fn run(self, take: &Take) {
+/// A take, and an output.
+struct Case<'f> {
+    take: Take<'f>,
+    out: Vec<u8>,
+}
+
+impl Tasks<Task> for Case<'_> {
+    fn run(&mut self, task: Task) {
+        let take = &self.take;
         let numbers = 0..take.properties();
-        match self {
+        match task {
             Task::Open => drop(black_box(Take::open(take.file()).unwrap())),
             Task::ByNumber => numbers.for_each(|i| see(take.property(i).unwrap())),
             Task::InOrder => take.property_frames().for_each(see),
@@ -51,48 +60,33 @@ impl Task {
             }),
         }
     }
+
+    fn copy(&mut self, _: Task) {
+        self.out.copy_from_slice(self.take.file());
+        black_box(&mut self.out);
+    }
 }
 
 fn see<T>(record: T) {
     black_box(record);
 }
 
-/// Warm and cold, by what is measured.
-fn times(take: &Take, out: &mut [u8], effort: Effort, other: &Other) -> [[Rounds; 2]; 6] {
-    let mut times = <[[Rounds; 2]; 6]>::default();
-    let mut copy = || {
-        out.copy_from_slice(take.file());
-        black_box(&mut *out);
-    };
-    for _ in 0..effort.rounds {
-        for task in Task::ALL {
-            let [cold_copy, warm_copy] = other.cold_and_warm(effort.batch, &mut copy);
-            let [cold, warm] = other.cold_and_warm(effort.batch, || task.run(take));
-            let [warm_rounds, cold_rounds] = &mut times[task as usize];
-            warm_rounds.push(warm, warm_copy);
-            cold_rounds.push(cold, cold_copy);
-        }
-    }
-    times
-}
-
 pub fn table(size: usize, other: &Other) {
     let effort = Effort { rounds: effort(size).rounds.min(9), ..effort(size) };
     let file = Material::new(Kind::IkStates, Names::Padded, size).file;
-    let take = Take::open(&file).unwrap();
+    let mut case = Case { take: Take::open(&file).unwrap(), out: file.clone() };
+    let frames = case.take.properties();
     println!("\n## Property frames\n");
     println!(
         "All {} property frames, of 2 IK states each, of a take of {}. Medians of {} rounds: nanoseconds per frame, and the \
          whole as a multiple of a copy of the file in the same state of the caches.",
-        take.properties(),
+        frames,
         shown(size),
         effort.rounds
     );
     head(["read", "ns per frame, warm", "ns per frame, cold", "by a copy, warm", "by a copy, cold"]);
-    let times = times(&take, &mut file.clone(), effort, other);
-    for task in Task::ALL {
-        let of = &times[task as usize];
-        let per_frame = |rounds: &Rounds| 1e9 * median(rounds.call.clone()) / take.properties() as f64;
+    for (task, of) in Task::ALL.into_iter().zip(&case.times(Task::ALL, effort, other)) {
+        let per_frame = |rounds: &Rounds| 1e9 * median(rounds.call.clone()) / frames as f64;
         let nanoseconds = of.iter().map(|rounds| format!("{:.1}", per_frame(rounds)));
         row([task.name().into()].into_iter().chain(nanoseconds).chain(of.iter().map(|rounds| cell(rounds.ratio()))));
     }

@@ -6,7 +6,7 @@ use vmd::{OwnedParts, Season, Take};
 
 use crate::measure::{Other, seconds};
 use crate::takes::{self, Kind, Order};
-use crate::{Effort, Rounds, cell, effort, head, row, shown};
+use crate::{Effort, Tasks, cell, effort, head, row, shown};
 
 /// What is measured.
 #[derive(Clone, Copy)]
@@ -51,7 +51,9 @@ impl Case {
         long.morph_name_ends.resize(morphs, 1);
         Case { out: vec![1; file.len()], file, exact, long }
     }
+}
 
+impl Tasks<Task> for Case {
     fn run(&mut self, task: Task) {
         match task {
             Task::Counting => drop(black_box(vmd::split_sizes(&self.file).unwrap())),
@@ -61,23 +63,9 @@ impl Case {
         }
     }
 
-    fn copy(&mut self) {
+    fn copy(&mut self, _: Task) {
         self.out.copy_from_slice(&self.file);
         black_box(&mut self.out);
-    }
-
-    /// Warm and cold, by what is measured.
-    fn times<const N: usize>(&mut self, tasks: [Task; N], effort: Effort, other: &Other) -> [[Rounds; 2]; N] {
-        let mut times = tasks.map(|_| <[Rounds; 2]>::default());
-        for _ in 0..effort.rounds {
-            for (task, [warm_rounds, cold_rounds]) in tasks.into_iter().zip(&mut times) {
-                let [cold_copy, warm_copy] = other.cold_and_warm(effort.batch, || self.copy());
-                let [cold, warm] = other.cold_and_warm(effort.batch, || self.run(task));
-                warm_rounds.push(warm, warm_copy);
-                cold_rounds.push(cold, cold_copy);
-            }
-        }
-        times
     }
 }
 

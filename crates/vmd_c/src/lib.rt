@@ -14,12 +14,13 @@ use vmd_reader::VmdOpening;
 use vmd_reader::VmdPropertyAnswer;
 use vmd_reader::VmdPropertyStep;
 use vmd_reader::VmdSelfShadowAnswer;
+use vmd_records::VmdParsedPropertyFrame;
 use vmd_scan::VmdSections;
 use vmd_season::VmdSeason;
 use vmd_season::VmdSectionFigures;
 use vmd_split::VmdSplit;
 ghost use mathlib.Core.Path.{_≡_};
-ghost use mathlib.Core.List.{[]};
+ghost use mathlib.Core.List.{[], _∷_};
 ghost use Prim.Native.Nat.{_*_};
 ghost use lib.ListN.{length};
 ghost use Rattle.vmd_format.specs.Bytes.{flag-byte};
@@ -296,6 +297,13 @@ pub extern "C" fn vmd_self_shadow_frame(
     }
 }
 
+fn property_words(x: VmdParsedPropertyFrame) -> [u32; 3]
+    ensures { λ r. ⌜ r ≡ x .frame ∷ flag-byte (x .visible) ∷ x .«ik_count» ∷ [] ⌝ }
+{
+    let visible = wide(vmd_bytes::flag_to_byte(x.visible));
+    [x.frame, visible, x.ik_count]
+}
+
 #[no_mangle]
 pub extern "C" fn vmd_property_frame(
     file: &[u8],
@@ -312,8 +320,7 @@ pub extern "C" fn vmd_property_frame(
     match vmd_reader::property_frame(file, opening_of(counts, places), scratch, i) {
         VmdPropertyAnswer::Refused(k) => k.number(),
         VmdPropertyAnswer::Found(x) => {
-            let visible = wide(vmd_bytes::flag_to_byte(x.visible));
-            *fields = [x.frame, visible, x.ik_count];
+            *fields = property_words(x);
             0
         }
     }
@@ -334,8 +341,7 @@ pub extern "C" fn vmd_property_frame_at(
     match vmd_reader::property_frame_at(file, place as usize) {
         VmdPropertyStep::Refused(k) => k.number(),
         VmdPropertyStep::Found { frame, next: after } => {
-            let visible = wide(vmd_bytes::flag_to_byte(frame.visible));
-            *fields = [frame.frame, visible, frame.ik_count];
+            *fields = property_words(frame);
             *next = after as u64;
             0
         }

@@ -15,7 +15,8 @@ use Rattle.vmd_format.specs.Records.{Property, ik-state}
 use Rattle.vmd_format.specs.Read.{Step, refused, got, Reader, bind, many, table}
 use Rattle.vmd_format.specs.ReadLaws.{Always, always-bind}
 use Rattle.vmd_format.specs.Take.{property}
-use Rattle.vmd_format.specs.Places.{Walk, walk, next-frame, Reaches, frame-end}
+use Rattle.vmd_format.specs.Fetch.{next-frame}
+use Rattle.vmd_format.specs.Places.{Walk, walk, Reaches, frame-end}
 use Rattle.vmd_format.specs.PlacesLaws.{property-in, frames-in, WalkAgrees, walk-agrees, walk-done, walk-short, walk-over, walk-next}
 use Rattle.vmd_format.specs.ScanLaws.{frames-length}
 use Rattle.vmd_format.specs.WalkLaws.{next-above, reaches-first, frame-more}

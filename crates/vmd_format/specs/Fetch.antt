@@ -43,17 +43,13 @@ pub record PropertyHead : Type 0 where
   pub visible : Bool
   pub ik-count : ℕ
 
--- the IK states of the property frame at a place: the count read there, and the bytes after it
-unfoldable pub ik-extent : List ℕ → ℕ → Extent
-ik-extent s at = record { count = u32 (drop (at + 5) s); place = at + 9 }
+-- where the property frame at a place ends, with its IK states, and the next one stands
+unfoldable pub next-frame : List ℕ → ℕ → ℕ
+next-frame s at = at + 9 + u32 (drop (at + 5) s) * 21
 
--- where the property frame at a place ends, with its IK states
-unfoldable pub property-end : List ℕ → ℕ → ℕ
-property-end s at = ik-extent s at .place + ik-extent s at .count * 21
-
--- the place of the next property frame, where all of this one is in the file
+-- the same where all of it is in the file
 unfoldable pub next-place : List ℕ → ℕ → Answer ℕ
-next-place s at = unless (leb (property-end s at) (length s)) outside (given (property-end s at))
+next-place s at = unless (leb (next-frame s at) (length s)) outside (given (next-frame s at))
 
 -- 02 f): "a fetch walks on from there", over n frames; "a walk that leaves the file is 4"
 unfoldable pub walk-frames : List ℕ → ℕ → ℕ → Answer ℕ
@@ -89,6 +85,10 @@ pub record PropertyStep : Type 0 where
 -- the property frame at a place, all of it in the file, and the place of the next one
 unfoldable pub step-property : ℕ → List ℕ → Answer PropertyStep
 step-property at s = map-answer (λ next. record { head = property-at s at; next = next }) (next-place s at)
+
+-- the IK states of the property frame at a place: the count read there, and the bytes after it
+unfoldable pub ik-extent : List ℕ → ℕ → Extent
+ik-extent s at = record { count = u32 (drop (at + 5) s); place = at + 9 }
 
 -- IK state j of property frame i
 unfoldable pub fetch-ik-state : Extent → List ℕ → ℕ → ℕ → List ℕ → Answer IkState

@@ -18,8 +18,8 @@ use Rattle.vmd_format.specs.Records.{IkState, Property, bone, morph, cam
 use Rattle.vmd_format.specs.Read.{Step, refused, got, table, Manner}
 use Rattle.vmd_format.specs.Take.{Take, File, take-of, read-file, answer, read-take}
 use Rattle.vmd_format.specs.Opening.{ik-total, smallest, largest, smallest-frame, largest-frame, positions, places-needed, sixteenth-positions, Extent, Scan, Opening, open-file, scratch-if, scratch-after}
-use Rattle.vmd_format.specs.Fetch.{record-place, fetch, or-empty, model-of, PropertyHead, ik-extent, property-end, next-place, walk-frames, frame-place, property-place, property-at, fetch-property, step-property, fetch-ik-state}
-use Rattle.vmd_format.specs.Places.{next-frame, Reaches, frame-end, sixteenth-places, opening-at, open-scan, scan-file, scan-scratch}
+use Rattle.vmd_format.specs.Fetch.{record-place, fetch, or-empty, model-of, PropertyHead, next-frame, next-place, walk-frames, frame-place, property-place, property-at, fetch-property, step-property, ik-extent, fetch-ik-state}
+use Rattle.vmd_format.specs.Places.{Reaches, frame-end, sixteenth-places, opening-at, open-scan, scan-file, scan-scratch}
 use Rattle.vmd_format.specs.PlacesLaws.{table-length, table-at, section-in, property-in, frames-in}
 use Rattle.vmd_format.specs.ScanLaws.{frames-length, file-in, Inside, Agrees, Matches, file-agrees}
 use Rattle.vmd_format.specs.WalkLaws.{reaches-first, frame-end-on, reaches-split, walk-passed}
@@ -103,11 +103,11 @@ frame-reaches s n at r i h =
 
 -- the step over a frame
 pub next-reaches : (s : List ℕ) (at : ℕ) → next-frame s at ≤ length s → next-place s at ≡ given (next-frame s at)
-unfolding next-place property-end ik-extent next-frame unless
+unfolding next-place unless
 next-reaches s at h = rw (le-leb (next-frame s at) (length s) h)
 
 pub next-leaves : (s : List ℕ) (at : ℕ) → length s < next-frame s at → next-place s at ≡ declined outside
-unfolding next-place property-end ik-extent next-frame unless
+unfolding next-place unless
 next-leaves s at h = rw (lt-leb (next-frame s at) (length s) h)
 
 -- a walk over n frames that lie in the file, and "a walk that leaves the file is 4"

@@ -15,8 +15,8 @@ use Rattle.vmd_format.specs.Records.{Property, bone, morph, camera, ligh
 use Rattle.vmd_format.specs.Read.{Step, refused, got, table, Manner}
 use Rattle.vmd_format.specs.Take.{Take, File, take-of, read-file, answer, read-take}
 use Rattle.vmd_format.specs.Opening.{ik-total, take-frames, smallest-frame, largest-frame, positions, places-needed, sixteenths, sixteenth-positions, Scan, Opening, extent-of, scan-of, opening-of, opened, open-file, scratch-of, scratch-after}
-use Rattle.vmd_format.specs.Fetch.{model-of}
-use Rattle.vmd_format.specs.Places.{scan-file, next-frame, frame-end, sixteenth-places, frames-from, scan-frames, opening-at, open-scan, scan-scratch}
+use Rattle.vmd_format.specs.Fetch.{model-of, next-frame}
+use Rattle.vmd_format.specs.Places.{scan-file, frame-end, sixteenth-places, frames-from, scan-frames, opening-at, open-scan, scan-scratch}
 use Rattle.vmd_format.specs.PlacesLaws.{table-length, section-in, property-in, frames-in}
 use Rattle.vmd_format.specs.ScanLaws.{frames-length, file-in, Agrees, Matches, file-agrees}
 

@@ -11,6 +11,7 @@ use Rattle.vmd_format.specs.Answer.{Answer, declined, given, and-then, u
 use Rattle.vmd_format.specs.Read.{Step, refused, got, Oversized, refuse, emptied, BytesOver, ignored, turned-down, Manner}
 use Rattle.vmd_format.specs.Take.{header}
 use Rattle.vmd_format.specs.Opening.{smallest, largest, places-needed, Extent, Scan, Opening, scratch-if}
+use Rattle.vmd_format.specs.Fetch.{next-frame}
 
 -- where the sections begin
 unfoldable pub place-after : List ℕ → Step (List ℕ) → Answer ℕ
@@ -119,9 +120,6 @@ unfoldable pub scan-file : Manner → List ℕ → Answer Scan
 scan-file m s = and-then (header-place s) (scan-sections m s)
 
 -- ---- the frames, and the property frames' places
-
-unfoldable pub next-frame : List ℕ → ℕ → ℕ
-next-frame s at = at + 9 + u32 (drop (at + 5) s) * 21
 
 -- each of n frames from a place on lies in the file, with its IK states
 unfoldable pub Reaches : List ℕ → ℕ → ℕ → Type 0

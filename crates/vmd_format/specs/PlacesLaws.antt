@@ -17,7 +17,8 @@ use Rattle.vmd_format.specs.Records.{Property, ik-state, property-head}
 use Rattle.vmd_format.specs.Read.{Step, refused, got, bind, Codec, whole, whole-if, fixed, many, table, Section, no-section, Oversized, refuse, emptied, over-count, records-if, counted-if, counted, optional}
 use Rattle.vmd_format.specs.Take.{property}
 use Rattle.vmd_format.specs.Opening.{ik-total, Extent}
-use Rattle.vmd_format.specs.Places.{Span, extent-in, no-span, over-span, records-span, count-span, span, optional-if, optional-span, Walk, walk-on, walk, next-frame}
+use Rattle.vmd_format.specs.Fetch.{next-frame}
+use Rattle.vmd_format.specs.Places.{Span, extent-in, no-span, over-span, records-span, count-span, span, optional-if, optional-span, Walk, walk-on, walk}
 
 -- a fact of what is given
 abbrev pub Holds : {A : Type 0} → (A → Type 0) → Answer A → Type 0

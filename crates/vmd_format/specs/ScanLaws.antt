@@ -17,8 +17,8 @@ use Rattle.vmd_format.specs.Records.{Property, bone, morph, camera, ligh
 use Rattle.vmd_format.specs.Read.{Step, refused, got, Reader, bind, fixed, many, Section, refuse, BytesOver, ignored, turned-down, Manner}
 use Rattle.vmd_format.specs.Take.{property, File, Edition, newer, older, magic, older-magic, model-width, same, edition-if, edition, model-if, magic-if, header-if, header, sections, ended, read-file}
 use Rattle.vmd_format.specs.Opening.{ik-total, Extent, Scan, extent-of, scan-of}
-use Rattle.vmd_format.specs.Fetch.{model-in, model-of}
-use Rattle.vmd_format.specs.Places.{place-after, header-place, place-past, HeaderPlaces, header-places, Span, extent-in, span, optional-span, Walk, walk, over-if, scan-sections, scan-file, next-frame}
+use Rattle.vmd_format.specs.Fetch.{model-in, model-of, next-frame}
+use Rattle.vmd_format.specs.Places.{place-after, header-place, place-past, HeaderPlaces, header-places, Span, extent-in, span, optional-span, Walk, walk, over-if, scan-sections, scan-file}
 use Rattle.vmd_format.specs.PlacesLaws.{Holds, table-length, Within, span-within, optional-within, section-by, counted-by, optional-by, section-in, fixed-by, frames-in, Walked, WalkAgrees, walk-agrees}
 
 -- the file of these places

@@ -15,7 +15,8 @@ use Rattle.vmd_format.specs.Read.{fixed, table, write-all, write-counted
 use Rattle.vmd_format.specs.Records.{ik-state, property-head}
 use Rattle.vmd_format.specs.Take.{property}
 use Rattle.vmd_format.specs.Opening.{ik-total}
-use Rattle.vmd_format.specs.Places.{Span, Walk, span, walk, walk-on, next-frame, Reaches, frame-end}
+use Rattle.vmd_format.specs.Fetch.{next-frame}
+use Rattle.vmd_format.specs.Places.{Span, Walk, span, walk, walk-on, Reaches, frame-end}
 use Rattle.vmd_format.specs.PlacesLaws.{Holds, Frame, frame-span, table-length, property-in, frames-in}
 use Rattle.vmd_format.specs.SizedLaws.{ik-state-sized, section-length}
 

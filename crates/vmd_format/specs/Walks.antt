@@ -149,6 +149,15 @@ pub state-walked :
 unfolding computed
 state-walked = (refl, refl, tt)
 
+-- a frame that counts 256 or 65,536 of them has a first one
+abbrev first-of : List ℕ → Answer IkState
+first-of count = state (many count) 0 0
+
+pub states-counted :
+    (first-of (0 ∷ 1 ∷ 0 ∷ 0 ∷ []) ≡ given (record { name = []; enabled = true })) × (first-of (0 ∷ 0 ∷ 1 ∷ 0 ∷ []) ≡ given (record { name = []; enabled = true }))
+unfolding computed
+states-counted = (refl, refl)
+
 -- ---- step after step
 
 -- the frame at a place and the next place; 4 where its IK states or its nine bytes are cut, at the end, and far past it

@@ -31,7 +31,8 @@ export-is-as-long m s places o e =
 
 -- ---- scratch enough
 
--- with 512 places no file of at most 65,536 bytes is refused with 3, since a property frame has at least nine bytes and a place serves sixteen
+-- with 512 places no file of at most 65,536 bytes is refused with 3, since a property frame has at least nine bytes and a place
+-- serves sixteen
 pub scratch-is-enough : (m : Manner) (s : List ℕ) → length s ≤ 65536 → Refuses (reading-numbers m) (open-file m s 512)
 unfolding places-needed
 scratch-is-enough m s h = enough-refuses m s 512 (ninth-enough m s 512 (omega arith))

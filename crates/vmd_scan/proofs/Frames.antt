@@ -8,7 +8,8 @@ use lib.ListN.{length, drop, length-append}
 use Rattle.vmd_format.specs.Bytes.{u32}
 use Rattle.vmd_format.specs.BytesLaws.{Bytes, bytes-drop, u32-lt}
 use Rattle.vmd_format.specs.Opening.{least, smallest, largest, record-count, Scan}
-use Rattle.vmd_format.specs.Places.{next-frame, frames-from, scan-frames}
+use Rattle.vmd_format.specs.Fetch.{next-frame}
+use Rattle.vmd_format.specs.Places.{frames-from, scan-frames}
 use Rattle.vmd_format.specs.FrameLaws.{largest-append}
 use Rattle.vmd_records.specs.declared.VmdKind.{VmdKind}
 use Rattle.vmd_records.specs.declared.VmdKind.the-variants as kind

@@ -16,8 +16,8 @@ use Rattle.vmd_format.specs.Answer.{Answer, declined, given, and-then, map-answ
 use Rattle.vmd_format.specs.Read.{Oversized, refuse, Manner}
 use Rattle.vmd_format.specs.Take.{sections}
 use Rattle.vmd_format.specs.Opening.{places-needed}
-use Rattle.vmd_format.specs.Fetch.{model-of}
-use Rattle.vmd_format.specs.Places.{header-place, HeaderPlaces, header-places, Span, extent-in, no-span, records-span, count-span, span, optional-if, optional-span, walk, scan-sections, next-frame, Reaches, frame-end, sixteenth-places}
+use Rattle.vmd_format.specs.Fetch.{model-of, next-frame}
+use Rattle.vmd_format.specs.Places.{header-place, HeaderPlaces, header-places, Span, extent-in, no-span, records-span, count-span, span, optional-if, optional-span, walk, scan-sections, Reaches, frame-end, sixteenth-places}
 use Rattle.vmd_format.specs.PlacesLaws.{Holds, Within, optional-within, walk-next}
 use Rattle.vmd_format.specs.WalkLaws.{reaches-split}
 use Rattle.vmd_format.specs.ScanLaws.{Headed, headed, no-model}

@@ -8,7 +8,8 @@ use Rattle.vmd_format.specs.Bytes.{u32, u32-bytes, is-set, flag-byte}
 use Rattle.vmd_format.specs.Read.{table, write-all}
 use Rattle.vmd_format.specs.Records.{ik-state}
 use Rattle.vmd_format.specs.Take.{property}
-use Rattle.vmd_format.specs.Places.{next-frame, Reaches}
+use Rattle.vmd_format.specs.Fetch.{next-frame}
+use Rattle.vmd_format.specs.Places.{Reaches}
 use Rattle.vmd_format.specs.PlacesLaws.{property-in, frames-in}
 use Rattle.vmd_format.specs.WalkLaws.{frame-bytes, frame-ends, reaches-first, frames-first, frames-none}
 use Rattle.vmd_bytes.specs.Slices.{splice}

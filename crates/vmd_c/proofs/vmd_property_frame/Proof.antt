@@ -19,14 +19,14 @@ returns c =
 returns-2 : tie.Need-returns-2
 unfolding property-words property-fields
 returns-2 c =
-    let t = c .before .before .before .before in
+    let t = c .before .before in
     let a = t .before .before in
     found property-fields (fetch-property-at _ _ _ (a .before .opening-of .ensures))
     (a .property-frame .ensures) (ap property-answer (t .x .given .1)) _ _
-    (λ v z. rw (c .before .wide .ensures, c .before .before .flag-to-byte .ensures, z))
+    (λ v z. rw (c .property-words .ensures, z))
 
 pub vmd-property-frame-spec : {M : Type 1} → statement M
 vmd-property-frame-spec =
     tie.close
     (tie.spec (λ c κs. search needs) (λ c κs. search needs) (λ c. search needs) (λ c κs. search needs) (λ c. search needs)
-    (λ c κs. search needs) (λ c κs. search needs) returns returns-2)
+    (λ c κs. search needs) returns returns-2)

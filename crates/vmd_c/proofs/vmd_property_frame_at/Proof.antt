@@ -17,15 +17,14 @@ returns c =
 returns-2 : tie.Need-returns-2
 unfolding property-words property-fields
 returns-2 c =
-    let w = c .before in
-    let t = w .before .before .before in
+    let t = c .before .before in
     let r = arrived step-fields refl (t .before .before .property-frame-at .ensures) (ap step-answer (t .frame .given .1)) in (
       status-given (r .is),
-      slot-filled _ _ r (λ v z. rw (w .wide .ensures, w .before .flag-to-byte .ensures, ap (λ p. p .0) z)),
+      slot-filled _ _ r (λ v z. rw (c .property-words .ensures, ap (λ p. p .0) z)),
       slot-filled _ _ r (λ v z. ap (λ p. p .1) z),
     )
 
 pub vmd-property-frame-at-spec : {M : Type 1} → statement M
 vmd-property-frame-at-spec =
     tie.close
-    (tie.spec (λ c κs. search needs) (λ c. search needs) (λ c κs. search needs) (λ c. search needs) (λ c κs. search needs) (λ c κs. search needs) returns returns-2)
+    (tie.spec (λ c κs. search needs) (λ c. search needs) (λ c κs. search needs) (λ c. search needs) (λ c κs. search needs) returns returns-2)

@@ -2,7 +2,7 @@
 use mathlib.Core.Path.{ap}
 use native.Mathlib.Omega.{arith}
 use borrow.Author.Needs.{needs}
-use Rattle.vmd_format.specs.Places.{next-frame}
+use Rattle.vmd_format.specs.Fetch.{next-frame}
 use Rattle.vmd_names.specs.Meaning.{check-of}
 use Rattle.vmd_check_records.proofs.Properties.{Framing, framing-start, framing-lies, framing-fails, framing-turn, framing-end}
 use Rattle.vmd_check_records.proofs.properties_check.Statement.{statement}

@@ -4,7 +4,8 @@ use mathlib.Core.Path.{_≡_, sym, _∙_}
 use native.Mathlib.Nat.{sub-zero}
 use native.Mathlib.Omega.{arith}
 use lib.ListN.{length}
-use Rattle.vmd_format.specs.Places.{next-frame, Reaches, frame-end}
+use Rattle.vmd_format.specs.Fetch.{next-frame}
+use Rattle.vmd_format.specs.Places.{Reaches, frame-end}
 use Rattle.vmd_scan.proofs.Laws.{reaches-next, frame-end-next, frame-end-done}
 use Rattle.vmd_scan.proofs.frame_end.Statement.{statement}
 use Rattle.vmd_scan.proofs.frame_end.Tie as tie

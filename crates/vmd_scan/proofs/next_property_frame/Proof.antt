@@ -1,6 +1,6 @@
 -- `vmd_scan::next_property_frame` meets its contract. Assumes nothing.
 use native.Mathlib.Omega.{arith}
-use Rattle.vmd_format.specs.Places.{next-frame}
+use Rattle.vmd_format.specs.Fetch.{next-frame}
 use Rattle.vmd_scan.proofs.next_property_frame.Statement.{statement}
 use Rattle.vmd_scan.proofs.next_property_frame.Tie as tie
 

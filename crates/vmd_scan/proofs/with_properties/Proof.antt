@@ -6,7 +6,8 @@ use native.Mathlib.Nat.{add-zero, sub-zero}
 use native.Mathlib.Omega.{arith}
 use lib.ListN.{length}
 use borrow.Author.Needs.{needs}
-use Rattle.vmd_format.specs.Places.{next-frame, Reaches}
+use Rattle.vmd_format.specs.Fetch.{next-frame}
+use Rattle.vmd_format.specs.Places.{Reaches}
 use Rattle.vmd_scan.specs.Frames.{seen}
 use Rattle.vmd_scan.proofs.Laws.{reaches-next}
 use Rattle.vmd_scan.proofs.Frames.{seen-turn, seen-done}

@@ -1,7 +1,7 @@
 -- `vmd_write_properties::property_length` meets its contract. Assumes nothing.
 use native.Mathlib.Omega.{arith}
 use borrow.Author.Needs.{needs}
-use Rattle.vmd_format.specs.Places.{next-frame}
+use Rattle.vmd_format.specs.Fetch.{next-frame}
 use Rattle.vmd_write_properties.proofs.property_length.Statement.{statement}
 use Rattle.vmd_write_properties.proofs.property_length.Tie as tie
 

@@ -5,7 +5,7 @@ use lib.ListN.{drop, length-set}
 use Prim.Native.Nat.{_+_}
 use denote.Ref.{now}
 use Rattle.vmd_format.specs.SizedLaws.{ik-state-sized}
-use Rattle.vmd_format.specs.Places.{next-frame}
+use Rattle.vmd_format.specs.Fetch.{next-frame}
 use Rattle.vmd_write_properties.proofs.Properties.{frame-written}
 use Rattle.vmd_writers.proofs.Records.{room-section}
 use Rattle.vmd_write_properties.proofs.write_property.Statement.{statement}
