@@ -1,5 +1,6 @@
 /*
- * VMD takes (MikuMikuDance motion files): read, saved, joined, built from parts and split into them; figures over many takes.
+ * VMD takes (MikuMikuDance motion files): read, saved, joined, tidied, built from parts and split into them; figures over many
+ * takes.
  *
  * Files of both editions are read by every call that takes a file. The newer begin with "Vocaloid Motion Data 0002" and have
  * a model name of 20 bytes, the older with "Vocaloid Motion Data file" and one of 10; after the name all is the same. Places
@@ -35,7 +36,8 @@ enum vmd_refusal {
     VMD_OK = 0,
     VMD_ENDS_EARLY = 1,          /* the file ends early */
     VMD_MAGIC_DIFFERS = 2,       /* not a VMD file */
-    VMD_SCRATCH_TOO_SHORT = 3,   /* fewer scratch places than a sixteenth of the property frames, rounded up */
+    VMD_SCRATCH_TOO_SHORT = 3,   /* opening: fewer scratch places than a sixteenth of the property frames, rounded up;
+                                    tidying: fewer than the largest section has records */
     VMD_OUTSIDE = 4,             /* record or IK number at or above the count, or its place outside the file */
     VMD_PARTS_NOT_WHOLE = 5,     /* name table ends wrong, records not whole, properties cut or with bytes over */
     VMD_NAME_UNFIT = 6,          /* model name over 20 bytes, table name over 15, or a zero byte in one */
@@ -211,6 +213,29 @@ uint32_t vmd_join_animations(const uint8_t *first, size_t first_len, const uint8
  * (0 the first, 1 the second), where it begins there, and its length; 0, 0, 0 where both are empty.
  */
 void vmd_joined_model(const uint8_t *first, size_t first_len, const uint8_t *second, size_t second_len, uint64_t part[3]);
+
+/*
+ * ---- tidying
+ *
+ * The canonical file in which each track is sorted by frame and holds only the last record in file order for each frame. Bone
+ * and morph tracks are the records of one name (the bytes before its first zero), one track after another in order of first
+ * appearance; each other section is one track. The model name is kept. A record is dropped just where a later one of its track
+ * has its frame. kept and dropped receive both numbers for each section, which add up to the records read.
+ *
+ * scratch is work space: one place for each record of the largest section, whatever stands there. After success these places
+ * hold 0, and further ones keep their contents. A scratch of file_len / 9 places is enough for any file.
+ *
+ * A tidied file is never longer than the export: an out of the export's length is never refused with 13. With a shorter out
+ * the kept records are first counted without scratch, which can take seconds: the size call, which is lent the scratch, does
+ * not. Both calls take up to 512 KiB of stack.
+ */
+
+/* How long the tidied file is, and both numbers. Refusals: 1, 2, 3; 13 where no 64-bit length could hold the file. */
+uint32_t vmd_tidy_size(const uint8_t *file, size_t file_len, uint64_t *scratch, size_t scratch_len, uint64_t *size,
+                       uint32_t kept[6], uint32_t dropped[6]);
+/* Refusals: 1, 2, 3, 13. */
+uint32_t vmd_tidy_animation(const uint8_t *file, size_t file_len, uint64_t *scratch, size_t scratch_len, uint8_t *out,
+                            size_t out_len, uint64_t *written, uint32_t kept[6], uint32_t dropped[6]);
 
 /*
  * ---- building

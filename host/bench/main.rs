@@ -1,5 +1,5 @@
-//! How long reading, saving, joining, building, splitting and the figures of a season take, as multiples of a plain copy of
-//! the same bytes, in one process. The original Rust is measured beside where it is built in (feature `original`). Prints the
+//! How long reading, saving, joining, tidying, building, splitting and the figures of a season take, as multiples of a plain
+//! copy of the same bytes, in one process. The original Rust is measured beside where it is built in (feature `original`). Prints the
 //! tables of docs/PERFORMANCE.md.
 //!
 //! Times are the process's CPU time. A call and its copy are measured one after the other, each in the same state of the
@@ -21,10 +21,12 @@ mod measure;
 mod older;
 #[cfg(feature = "original")]
 mod original;
+mod plain;
 mod properties;
 mod split;
 mod tables;
 mod takes;
+mod tidy;
 
 /// What is measured of the original.
 #[derive(Clone, Copy)]
@@ -383,6 +385,14 @@ fn main() {
             println!("Measured by `./bench` on {}.", machine());
             return split::season(full, &Other::new());
         }
+        [option] if option == "--tidy" => {
+            println!("Measured by `./bench` on {}.", machine());
+            return tidy::table(full);
+        }
+        [option] if option == "--tidy-refused" => {
+            println!("Measured by `./bench` on {}.", machine());
+            return tidy::refused(full);
+        }
         [option] if option == "--older" => {
             println!("Measured by `./bench` on {}.", machine());
             return older::table(full, &Other::new());
@@ -401,8 +411,8 @@ fn main() {
         }
         _ => {
             eprintln!(
-                "bench: the options are --quick, which measures small takes, --older, --properties, --split, --season, \
-                 --tables, --names, --against LIBRARY and --opening LIBRARY"
+                "bench: the options are --quick, which measures small takes, --older, --properties, --split, --season, --tidy, \
+                 --tidy-refused, --tables, --names, --against LIBRARY and --opening LIBRARY"
             );
             std::process::exit(2);
         }
@@ -424,6 +434,7 @@ fn main() {
     properties::table(full, &other);
     split::table(split_sizes, &other);
     split::season(full, &other);
+    tidy::table(full);
     tables::table(table_names, full);
     memory(full);
 }

@@ -116,8 +116,7 @@ impl Order {
             } as u32)
             .collect();
         if self == Order::Random {
-            let mut random = Random(2_463_534_242);
-            (1..records).rev().for_each(|i| indices.swap(i, random.next() as usize % (i + 1)));
+            Random(2_463_534_242).shuffle(&mut indices);
         }
         indices
     }
@@ -141,6 +140,14 @@ impl Random {
 
     fn float(&mut self) -> f32 {
         (self.next() % 20_000) as f32 / 64.0 - 150.0
+    }
+
+    fn bytes<const N: usize>(&mut self) -> [u8; N] {
+        std::array::from_fn(|_| self.next() as u8)
+    }
+
+    fn shuffle<T>(&mut self, values: &mut [T]) {
+        (1..values.len()).rev().for_each(|i| values.swap(i, self.next() as usize % (i + 1)));
     }
 }
 
@@ -277,8 +284,12 @@ pub fn all_different(kind: Kind, order: Order, records: usize) -> Vec<u8> {
     let mut c = columns(counts, Names::Padded);
     c.bone_indices = order.indices(counts[0], records);
     c.morph_indices = order.indices(counts[1], records);
-    let field = |n: usize| std::array::from_fn(|k| if k < 8 { b'A' + (n >> (28 - 4 * k)) as u8 % 16 } else { 0 });
-    file_with(&c, &(0..records).map(field).collect::<Vec<_>>())
+    file_with(&c, &(0..records).map(different_field).collect::<Vec<_>>())
+}
+
+/// The field of a name that no other number has.
+fn different_field(n: usize) -> [u8; 15] {
+    std::array::from_fn(|k| if k < 8 { b'A' + (n >> (28 - 4 * k)) as u8 % 16 } else { 0 })
 }
 
 /// The columns as a file, its names' fields in their own way.
@@ -310,5 +321,128 @@ fn file_with(c: &Columns, fields: &[[u8; 15]]) -> Vec<u8> {
     file.extend([0; 8]);
     file.extend((c.property_count as u32).to_le_bytes());
     file.extend(&c.properties);
+    file
+}
+
+// ---- takes to tidy
+
+/// Records of one size.
+#[derive(Clone, Copy, PartialEq)]
+pub enum Section {
+    Bones,
+    Morphs,
+    Cameras,
+    Lights,
+    SelfShadows,
+    Properties,
+    IkStates,
+}
+
+impl Section {
+    pub fn name(self) -> &'static str {
+        match self {
+            Section::Bones => "bones",
+            Section::Morphs => "morphs",
+            Section::Cameras => "cameras",
+            Section::Lights => "lights",
+            Section::SelfShadows => "self-shadows",
+            Section::Properties => Kind::Properties.name(),
+            Section::IkStates => Kind::IkStates.name(),
+        }
+    }
+
+    /// Where it stands in a file.
+    fn index(self) -> usize {
+        match self {
+            Section::Properties | Section::IkStates => 5,
+            other => other as usize,
+        }
+    }
+
+    pub fn has_names(self) -> bool {
+        matches!(self, Section::Bones | Section::Morphs)
+    }
+
+    /// How many records of it make up so many bytes.
+    pub fn records(self, size: usize) -> usize {
+        size / [111, 23, 61, 28, 9, 9, 51][self as usize]
+    }
+
+    /// A record in canonical form.
+    fn record(self, file: &mut Vec<u8>, field: [u8; 15], frame: u32, random: &mut Random) {
+        if self.has_names() {
+            file.extend(field);
+        }
+        file.extend(frame.to_le_bytes());
+        match self {
+            Section::Bones => file.extend(random.bytes::<92>()),
+            Section::Morphs => file.extend(random.bytes::<4>()),
+            Section::Cameras => file.extend(random.bytes::<56>().iter().chain(&[1])),
+            Section::Lights => file.extend(random.bytes::<24>()),
+            Section::SelfShadows => file.extend(random.bytes::<5>()),
+            Section::Properties => file.extend([1, 0, 0, 0, 0]),
+            Section::IkStates => {
+                file.extend([1, 2, 0, 0, 0]);
+                file.extend(b"left leg\0\0\0\0\0\0\0\0\0\0\0\0\x01right leg\0\0\0\0\0\0\0\0\0\0\0\x01");
+            }
+        }
+    }
+}
+
+/// In which order the records of a section come: one name after another, each rising by frame; or by frame, with the names in
+/// turn. No two of a name have the same frame.
+#[derive(Clone, Copy, PartialEq)]
+pub enum Keys {
+    Tidy,
+    Rising,
+    Falling,
+    Shuffled,
+}
+
+impl Keys {
+    pub const ALL: [Keys; 4] = [Keys::Tidy, Keys::Rising, Keys::Falling, Keys::Shuffled];
+
+    pub fn name(self) -> &'static str {
+        match self {
+            Keys::Tidy => "tidy",
+            Keys::Rising => "rising",
+            Keys::Falling => "falling",
+            Keys::Shuffled => "shuffled",
+        }
+    }
+
+    /// The number of each record's name, and its frame.
+    fn of(self, records: usize, names: usize, random: &mut Random) -> Vec<(usize, u32)> {
+        let mut keys: Vec<_> = (0..records).map(|i| (i % names, (i / names) as u32)).collect();
+        match self {
+            Keys::Tidy => keys.sort(),
+            Keys::Rising => {}
+            Keys::Falling => keys.reverse(),
+            Keys::Shuffled => random.shuffle(&mut keys),
+        }
+        keys
+    }
+}
+
+/// A canonical take of so many records of some sections, in the file's order. Those of bones and morphs have 200 names, or
+/// each a name of its own.
+pub fn with_keys(sections: &[(Section, usize)], keys: Keys, all_different: bool) -> Vec<u8> {
+    let mut random = Random(2_463_534_242);
+    let mut file = b"Vocaloid Motion Data 0002\0\0\0\0\0dancer".to_vec();
+    file.resize(50, 0);
+    for index in 0..6 {
+        let found = sections.iter().find(|(section, _)| section.index() == index);
+        file.extend(found.map_or(0, |(_, records)| *records as u32).to_le_bytes());
+        let Some(&(section, records)) = found else { continue };
+        let names = match section.has_names() {
+            true if all_different => records,
+            true => 200,
+            false => 1,
+        };
+        for (name, frame) in keys.of(records, names, &mut random) {
+            let field = if all_different { different_field(name) } else { Names::Padded.field(name) };
+            section.record(&mut file, field, frame, &mut random);
+        }
+    }
     file
 }

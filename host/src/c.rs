@@ -7,6 +7,7 @@ use crate::header::{self, indices, sizes};
 use crate::parts::{OwnedParts, Parts, PartsMut, TableSizes};
 use crate::refusal::{Error, Refusal};
 use crate::take::Take;
+use crate::tidy::{Tidied, TidiedSections};
 
 /// What opening gives, lent to every fetch.
 #[derive(Clone, Debug)]
@@ -73,7 +74,7 @@ pub fn reserve<T>(memory: &mut Vec<T>, len: u64) -> Result<usize, Error> {
 }
 
 /// Memory for just `size` bytes, written by a call that is lent it and says how many it has written. The memory is not
-/// cleared before: an output of this size is written whole.
+/// cleared before: only what was written is given.
 fn written(size: u64, write: impl FnOnce(*mut u8, usize, *mut u64) -> u32) -> Result<Vec<u8>, Error> {
     let mut out = Vec::new();
     let room = reserve(&mut out, size)?;
@@ -257,6 +258,67 @@ pub fn joined_model<'f>(first: &'f [u8], second: &'f [u8]) -> &'f [u8] {
     // SAFETY: two slices, and an array of this function's own.
     unsafe { header::vmd_joined_model(first.as_ptr(), first.len(), second.as_ptr(), second.len(), &mut part) };
     part_of(if part[0] == 0 { first } else { second }, [part[1], part[2]])
+}
+
+/// How many bytes [`tidy`](crate::tidy) gives, and how many records of each section it keeps and drops. The scratch is lent
+/// as to [`tidy_into`].
+pub fn tidy_size(file: &[u8], scratch: &mut [u64]) -> Result<(u64, TidiedSections), Refusal> {
+    let (mut size, mut kept, mut dropped) = (0, [0; 6], [0; 6]);
+    // SAFETY: two slices, of which the scratch is borrowed by this call alone, and a number and two arrays of this function's
+    // own.
+    answered(unsafe {
+        header::vmd_tidy_size(
+            file.as_ptr(),
+            file.len(),
+            scratch.as_mut_ptr(),
+            scratch.len(),
+            &mut size,
+            &mut kept,
+            &mut dropped,
+        )
+    })?;
+    Ok((size, TidiedSections::of(kept, dropped)))
+}
+
+/// [`tidy`](crate::tidy) at the front of a lent output, the rest of which stays as it is. Gives how many bytes it wrote, and
+/// how many records of each section it kept and dropped.
+///
+/// The scratch has a place for each record of the largest section, whatever stands there; `file.len() / 9` places are enough
+/// for any file. These places hold zeros after it, and further ones what they held.
+///
+/// An output as long as [`export_size`] says is long enough. With a shorter one the records that are kept are counted first,
+/// without the scratch, which can take seconds: [`tidy_size`] counts them with it.
+pub fn tidy_into(file: &[u8], scratch: &mut [u64], out: &mut [u8]) -> Result<(usize, TidiedSections), Refusal> {
+    let (mut written, mut kept, mut dropped) = (0, [0; 6], [0; 6]);
+    // SAFETY: three slices, of which the scratch and the output are borrowed by this call alone, and a number and two arrays of
+    // this function's own.
+    answered(unsafe {
+        header::vmd_tidy_animation(
+            file.as_ptr(),
+            file.len(),
+            scratch.as_mut_ptr(),
+            scratch.len(),
+            out.as_mut_ptr(),
+            out.len(),
+            &mut written,
+            &mut kept,
+            &mut dropped,
+        )
+    })?;
+    Ok((written as usize, TidiedSections::of(kept, dropped)))
+}
+
+/// Tidies into memory of its own for as many bytes as the export has, so that the records need not be counted first.
+pub fn tidy(file: &[u8], scratch: &mut [u64]) -> Result<Tidied, Error> {
+    let (mut kept, mut dropped) = ([0; 6], [0; 6]);
+    let (places, places_len) = (scratch.as_mut_ptr(), scratch.len());
+    // SAFETY: two slices, of which the scratch is borrowed by this call alone, two arrays of this function's own, and new
+    // memory for `len` bytes, of which the call reads none that it has not written.
+    let mut tidied = written(export_size(file)?, |out, len, written| unsafe {
+        header::vmd_tidy_animation(file.as_ptr(), file.len(), places, places_len, out, len, written, &mut kept, &mut dropped)
+    })?;
+    tidied.shrink_to_fit();
+    Ok(Tidied { file: tidied, sections: TidiedSections::of(kept, dropped) })
 }
 
 /// The place of a name's first byte, read left to right, that starts neither a good single byte nor a good pair of Shift_JIS;
@@ -750,6 +812,41 @@ mod tests {
         assert_eq!(answers(&file[..53], 0), ([1, 1], 7, 7));
         assert_eq!(answers(&[0; 30], 0), ([2, 2], 7, 7));
         assert_eq!(out[82..], [7; 3]);
+    }
+
+    /// The numbers and the slots of both tidying calls with so many places and bytes of output; the slots held 7s.
+    fn tidying(file: &[u8], places: usize, room: usize) -> [(u32, u64, [u32; 6], [u32; 6]); 2] {
+        let (mut scratch, mut out) = (vec![7; places], vec![7; room]);
+        let (at, out) = (scratch.as_mut_ptr(), out.as_mut_ptr());
+        [false, true].map(|writes| {
+            let (mut len, mut kept, mut dropped) = (7, [7; 6], [7; 6]);
+            let (len_of, kept_of, dropped_of) = (&mut len, &mut kept, &mut dropped);
+            // SAFETY: slices, and a number and two arrays of this function's own.
+            let number = unsafe {
+                if writes {
+                    let (file, file_len) = (file.as_ptr(), file.len());
+                    header::vmd_tidy_animation(file, file_len, at, places, out, room, len_of, kept_of, dropped_of)
+                } else {
+                    header::vmd_tidy_size(file.as_ptr(), file.len(), at, places, len_of, kept_of, dropped_of)
+                }
+            };
+            (number, len, kept, dropped)
+        })
+    }
+
+    /// A refused call leaves the slots as they were.
+    #[test]
+    fn slots_of_tidying() {
+        let [file, _] = both_editions(); // two property frames, at the same frame
+        let one = [0, 0, 0, 0, 0, 1];
+        let (done, refused) = ((0, 83, one, one), |number| (number, 7, [7; 6], [7; 6]));
+        assert_eq!(tidying(&file, 2, 83), [done; 2]);
+        assert_eq!(tidying(&file, 9, 99), [done; 2]);
+        assert_eq!(tidying(&file, 2, 82), [done, refused(13)]);
+        assert_eq!(tidying(&file, 1, 83), [refused(3); 2]);
+        assert_eq!(tidying(&file, 0, 0), [refused(3); 2]);
+        assert_eq!(tidying(&file[..file.len() - 1], 0, 0), [refused(1); 2]);
+        assert_eq!(tidying(&[0; 30], 0, 0), [refused(2); 2]);
     }
 
     /// Tables of 15 bytes for each record as long as a table may be so long, else as long as the file needs them.

@@ -121,6 +121,14 @@ unsafe extern "C" {
         out: *mut u8, out_len: usize, written: *mut u64,
     ) -> u32;
     pub fn vmd_joined_model(first: *const u8, first_len: usize, second: *const u8, second_len: usize, part: *mut [u64; 3]);
+    pub fn vmd_tidy_size(
+        file: *const u8, file_len: usize, scratch: *mut u64, scratch_len: usize, size: *mut u64, kept: *mut [u32; 6],
+        dropped: *mut [u32; 6],
+    ) -> u32;
+    pub fn vmd_tidy_animation(
+        file: *const u8, file_len: usize, scratch: *mut u64, scratch_len: usize, out: *mut u8, out_len: usize,
+        written: *mut u64, kept: *mut [u32; 6], dropped: *mut [u32; 6],
+    ) -> u32;
     pub fn vmd_first_fault(name: *const u8, name_len: usize) -> usize;
     pub fn vmd_build_size(
         model_name: *const u8, model_name_len: usize,

@@ -1,5 +1,5 @@
-//! VMD takes, the motion files of MikuMikuDance: read, saved, joined, built from parts and split into them, and figures over
-//! many of them.
+//! VMD takes, the motion files of MikuMikuDance: read, saved, joined, tidied, built from parts and split into them, and
+//! figures over many of them.
 //!
 //! Files of both editions are read: the newer begin with `Vocaloid Motion Data 0002`, the older with `Vocaloid Motion Data
 //! file`. What is written is of the newer edition, but for [`export_older`].
@@ -7,7 +7,8 @@
 //! A thin layer over the C interface of the proved library (`include/vmd.h`). What the calls answer is its doing; this crate
 //! adds the types of Rust, memory for what is written, and [`save`], which puts a take in the place of another and loses
 //! neither on the way. The calls keep no state and can be made from any thread; [`Take::parts`], [`split_into`],
-//! [`split_sizes`] and [`Season::add`] take up to 256 KiB of its stack.
+//! [`split_sizes`] and [`Season::add`] take up to 256 KiB of its stack, [`tidy`], [`tidy_into`] and [`tidy_size`] up to
+//! 512 KiB.
 //!
 //! ```
 //! // a take of one property frame that switches a leg's inverse kinematics off
@@ -28,6 +29,11 @@
 //! // twice the take: both property frames are there
 //! let twice = vmd::join(&file, &file)?;
 //! assert_eq!(vmd::Take::open(&twice)?.ik_states(), 2);
+//!
+//! // of two at one frame the later one shows: tidying keeps that alone
+//! let tidied = vmd::tidy(&twice)?;
+//! assert_eq!((tidied.sections.properties.kept, tidied.sections.properties.dropped), (1, 1));
+//! assert_eq!(tidied.file, file);
 //!
 //! // columns and records to edit, and the take that they make
 //! let parts = take.parts()?;
@@ -52,10 +58,11 @@ mod shown;
 #[allow(unsafe_code)]
 mod system;
 mod take;
+mod tidy;
 
 pub use c::{
     export_into, export_older_into, export_older_size, export_size, first_fault, join_into, join_size, split_into,
-    split_sizes,
+    split_sizes, tidy_into, tidy_size,
 };
 pub use parts::{NameTable, OwnedParts, Parts, PartsMut, TableSizes};
 pub use refusal::{Error, Refusal};
@@ -66,3 +73,4 @@ pub use take::{
     BoneFrame, CameraFrame, IkState, LightFrame, MorphFrame, PropertyFrame, SelfShadowFrame, Take, export, export_older,
     join, joined_model,
 };
+pub use tidy::{Tidied, TidiedSection, TidiedSections, tidy};

@@ -1,4 +1,4 @@
-//! The command `vmd`: lists, saves and joins takes, and gives the figures of a season.
+//! The command `vmd`: lists, saves, joins and tidies takes, and gives the figures of a season.
 #![deny(unsafe_code)]
 
 #[allow(unsafe_code)]
@@ -18,7 +18,7 @@ use std::process::ExitCode;
 
 use progress::Progress;
 use tree::Tree;
-use vmd::{Error, FileId, Refusal, Season, Take, shown};
+use vmd::{Error, FileId, Refusal, Season, Take, TidiedSections, shown};
 use words::Words;
 
 const HELP: &str = "\
@@ -31,6 +31,11 @@ vmd: VMD takes (MikuMikuDance motion files)
   vmd export --older IN -o OUT    the same in the older edition, which has room for a model name of 10 bytes: a take with a
                                   longer one is refused
   vmd join FIRST SECOND.. -o OUT  joins takes from left to right: in every section the records of each, one after another
+  vmd tidy IN -o OUT              saves a take without the keys that never show: of the records of one bone, of one morph or
+                                  of another section that have the same frame the last is kept. The records of each bone
+                                  and morph stand together, in order of first appearance, and all are sorted by frame. Once
+                                  OUT is saved standard error has a line for each section: how many records were kept and
+                                  dropped
   vmd season FILE..               figures over all takes together, one figure a line: the figure's name, ': ' and the
                                   number. They are how many takes were accepted and refused; for each section its records
                                   in all takes, and the smallest and the largest number of them in a take; the distinct
@@ -156,6 +161,7 @@ fn run(words: &[OsString]) -> Result<u8, Failure> {
         Some("list") => (list, &[]),
         Some("export") => (export, &[OLDER]),
         Some("join") => (join, &[]),
+        Some("tidy") => (tidy, &[]),
         Some("season") => (season, &[]),
         _ => return Err(Failure::Usage(format!("there is no command '{}'", shown(command)))),
     };
@@ -216,11 +222,17 @@ fn line(file: &[u8]) -> Result<String, Error> {
     ))
 }
 
-fn export(words: &Words) -> Result<u8, Failure> {
+/// The files of a command that makes one of another.
+fn in_and_out<'w>(words: &Words<'w>) -> Result<[&'w OsStr; 2], Failure> {
     let to = words.output()?;
-    let [from] = words.files[..] else {
-        return Err(Failure::Usage("one file is needed, IN".into()));
-    };
+    match words.files[..] {
+        [from] => Ok([from, to]),
+        _ => Err(Failure::Usage("one file is needed, IN".into())),
+    }
+}
+
+fn export(words: &Words) -> Result<u8, Failure> {
+    let [from, to] = in_and_out(words)?;
     let export = if words.has(OLDER) { vmd::export_older } else { vmd::export };
     let mut sources = Sources::default();
     let saved = export(&sources.read(from)?).map_err(|error| Failure::of(from, error))?;
@@ -243,6 +255,32 @@ fn join(words: &Words) -> Result<u8, Failure> {
     }
     let joined = tree.all(join(last))?.expect("there are two takes at least");
     sources.write(to, &joined)
+}
+
+fn tidy(words: &Words) -> Result<u8, Failure> {
+    let [from, to] = in_and_out(words)?;
+    let mut sources = Sources::default();
+    let tidied = vmd::tidy(&sources.read(from)?).map_err(|error| Failure::of(from, error))?;
+    let saved = sources.write(to, &tidied.file);
+    // Told of a take that was saved: of one that is as it was they would not be true.
+    if matches!(saved, Ok(_) | Err(Failure::Unflushed(_))) {
+        let _ = io::stderr().write_all(kept_and_dropped(&tidied.sections).as_bytes());
+    }
+    saved
+}
+
+/// What is told of a take that was tidied: a line for each section, also for one without records.
+fn kept_and_dropped(sections: &TidiedSections) -> String {
+    [
+        ("bones", sections.bones),
+        ("morphs", sections.morphs),
+        ("cameras", sections.cameras),
+        ("lights", sections.lights),
+        ("self-shadows", sections.self_shadows),
+        ("properties", sections.properties),
+    ]
+    .map(|(section, of)| format!("{section}: {} kept, {} dropped\n", of.kept, of.dropped))
+    .concat()
 }
 
 /// One take after another, each freed before the next is read.

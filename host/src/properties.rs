@@ -31,7 +31,8 @@ pub fn open(file: &[u8]) -> Result<(Opening, Vec<u64>), Error> {
     Ok((opening, scratch))
 }
 
-fn zeros(places: usize) -> Result<Vec<u64>, Error> {
+/// A scratch of so many places.
+pub fn zeros(places: usize) -> Result<Vec<u64>, Error> {
     let mut scratch = Vec::new();
     let places = c::reserve(&mut scratch, places as u64)?;
     scratch.resize(places, 0);

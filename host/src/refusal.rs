@@ -53,8 +53,10 @@ refusals! {
     EndsEarly = 1, "the file ends early";
     /// The first 26 bytes are neither edition's magic.
     MagicDiffers = 2, "the file is not a VMD take";
-    /// Fewer scratch places than a sixteenth of the property frames, rounded up. [`Take`](crate::Take) lends enough.
-    ScratchTooShort = 3, "the scratch has fewer places than a sixteenth of the file's property frames, rounded up";
+    /// The scratch has too few places. Opening needs a sixteenth of the property frames, rounded up: [`Take`](crate::Take)
+    /// lends enough. Tidying needs as many as the largest section has records: [`tidy`](crate::tidy) lends enough.
+    ScratchTooShort = 3, "the scratch is too short: opening needs a place for every 16 property frames of the file, tidying \
+                          one for each record of its largest section";
     /// A record or IK number at or above the count, or its place outside the file. [`Take`](crate::Take) gives `None`.
     Outside = 4, "the file has no such record";
     /// A name table's ends are wrong, record bytes are no whole records, or property frames are cut or have bytes over.

@@ -155,6 +155,8 @@ fn takes_of_both_editions() {
     assert_eq!(run(&["join", "older", "newer", "-o", "-"]), joined[2]);
     assert_eq!(run(&["join", "newer", "older", "-o", "-"]), joined[2]);
     assert_eq!(run(&["season", "older", "other", "older"]), run(&["season", "newer", "other", "newer"]));
+    let done = vmd().current_dir(&folder.0).args(["tidy", "older", "-o", "-"]).output().unwrap();
+    assert_eq!((status(&done), done.stdout), (0, newer));
 }
 
 /// Wherever the option stands, to a file and to standard output, from a take of either edition.
@@ -229,6 +231,95 @@ fn a_model_name_that_is_too_long_for_the_older_edition() {
     let done = vmd().current_dir(&folder.0).args(["export", "--older", "take", "-o", "out"]).output().unwrap();
     assert_eq!((status(&done), err(&done)), (0, String::new()));
     assert_eq!(fs::read(folder.join("out")).unwrap(), as_older(&take));
+}
+
+/// What is told of a take that was tidied: of each section how many records were kept and how many dropped.
+fn told(sections: [[u32; 2]; 6]) -> String {
+    let names = ["bones", "morphs", "cameras", "lights", "self-shadows", "properties"];
+    names.iter().zip(sections).map(|(name, [kept, dropped])| format!("{name}: {kept} kept, {dropped} dropped\n")).collect()
+}
+
+/// Records in no order, some of them at the same frame, and what is told of them once they are tidied.
+fn untidy() -> (Vec<u8>, String) {
+    let take = at_frames([vec![3, 1, 3, 2, 3], vec![], vec![7, 7], vec![5], vec![9, 8, 9, 8], vec![0, 4]]);
+    (take, told([[3, 2], [0, 0], [1, 1], [1, 0], [2, 2], [2, 0]]))
+}
+
+/// From and to files and standard input and output. Standard error has a line for each section, in the file's order, also for
+/// one without records.
+#[test]
+fn tidies_a_take() {
+    let folder = Folder::new("tidy");
+    let (take, lines) = untidy();
+    let tidied = at_frames([vec![1, 2, 3], vec![], vec![7], vec![5], vec![8, 9], vec![0, 4]]);
+    folder.file("take", &take);
+    for words in [&["tidy", "take", "-o", "out"][..], &["tidy", "-o", "out", "--", "take"]] {
+        let done = vmd().current_dir(&folder.0).args(words).output().unwrap();
+        assert_eq!((status(&done), out(&done), err(&done)), (0, String::new(), lines.clone()), "{words:?}");
+        assert_eq!(fs::read(folder.join("out")).unwrap(), tidied);
+        fs::remove_file(folder.join("out")).unwrap();
+    }
+    let done = given(vmd().args(["tidy", "-", "-o", "-"]), &take);
+    assert_eq!((status(&done), err(&done), done.stdout), (0, lines.clone(), tidied.clone()));
+    let done = given(vmd().current_dir(&folder.0).args(["tidy", "-", "-o", "out"]), &as_older(&take));
+    assert_eq!((status(&done), out(&done), err(&done)), (0, String::new(), lines.clone()));
+    assert_eq!(fs::read(folder.join("out")).unwrap(), tidied);
+    let done = vmd().current_dir(&folder.0).args(["tidy", "take", "-o", "/dev/stdout"]).output().unwrap();
+    assert_eq!((status(&done), err(&done), done.stdout), (0, lines.clone(), tidied.clone()));
+    let done = given(vmd().args(["tidy", "-", "-o", "-"]), &counts(&[0]));
+    assert_eq!((status(&done), err(&done), done.stdout), (0, told([[0; 2]; 6]), counts(&[0; 6])));
+
+    // over the take itself, and again, which changes nothing
+    for lines in [lines, told([[3, 0], [0, 0], [1, 0], [1, 0], [2, 0], [2, 0]])] {
+        let done = vmd().current_dir(&folder.0).args(["tidy", "take", "-o", "take"]).output().unwrap();
+        assert_eq!((status(&done), out(&done), err(&done)), (0, String::new(), lines));
+        assert_eq!(fs::read(folder.join("take")).unwrap(), tidied);
+    }
+    assert_eq!(folder.names(), ["out", "take"]);
+}
+
+/// A take that was joined with itself has each key twice.
+#[test]
+fn tidies_a_join() {
+    let examples = concat!(env!("CARGO_MANIFEST_DIR"), "/../examples");
+    let run = |words: &[&str], input: &[u8]| given(vmd().current_dir(examples).args(words).args(["-o", "-"]), input);
+    let once = run(&["tidy", "show.vmd"], b"");
+    assert_eq!(err(&once), told([[9, 2], [4, 0], [3, 0], [2, 0], [3, 0], [4, 0]]));
+    let twice = run(&["tidy", "-"], &run(&["join", "show.vmd", "encore.vmd"], b"").stdout);
+    assert_eq!(err(&twice), told([[9, 13], [4, 4], [3, 3], [2, 2], [3, 3], [4, 4]]));
+    assert_eq!((status(&once), status(&twice)), (0, 0));
+    assert!(once.stdout == twice.stdout);
+}
+
+/// Nothing is told of what was kept where the take was not saved: what is told then is why.
+#[test]
+fn a_tidied_take_that_is_not_saved() {
+    let folder = Folder::new("tidy-fails");
+    let (take, _) = untidy();
+    folder.file("take", &take);
+    folder.file("early", &take[..take.len() - 1]);
+    folder.file("other", &[0x41; 60]);
+    folder.file("out", b"old");
+    fs::create_dir(folder.join("folder")).unwrap();
+    for (words, expected, sentence) in [
+        (["early", "out"], 1, "early: refused 1: the file ends early"),
+        (["other", "out"], 1, "other: refused 2: the file is not a VMD take"),
+        (["early", "-"], 1, "early: refused 1: the file ends early"),
+        (["none", "out"], 2, "none: cannot read the file: No such file or directory (os error 2)"),
+        (["folder", "out"], 2, "folder: cannot read the file: it is a folder"),
+        (["take", "folder"], 2, "folder: cannot replace the file: it is a folder"),
+    ] {
+        let done = vmd().current_dir(&folder.0).args(["tidy", words[0], "-o", words[1]]).output().unwrap();
+        assert_eq!((status(&done), out(&done), err(&done)), (expected, String::new(), format!("vmd: {sentence}\n")));
+        assert_eq!(fs::read(folder.join("out")).unwrap(), b"old");
+    }
+    let piped = given(vmd().current_dir(&folder.0).args(["tidy", "-", "-o", "out"]), &start());
+    assert_eq!((status(&piped), err(&piped)), (1, "vmd: standard input: refused 1: the file ends early\n".into()));
+    assert_eq!(fs::read(folder.join("out")).unwrap(), b"old");
+    // standard error that cannot be written to does not keep the take from being saved
+    let done = vmd_under("exec 2>&-").current_dir(&folder.0).args(["tidy", "take", "-o", "out"]).output().unwrap();
+    assert_eq!((status(&done), out(&done)), (0, String::new()));
+    assert_eq!(fs::read(folder.join("out")).unwrap(), vmd::tidy(&take).unwrap().file);
 }
 
 /// The figures of a season as they are printed: each section's total, smallest and largest, and the rest in their order.
@@ -366,8 +457,13 @@ fn refused_takes_are_named_and_nothing_is_written() {
     let folder = Folder::new("refused");
     let (good, bad) = (folder.file("good", &bones(1, 1)), folder.file("bad", &[0x41; 60]));
     let to = folder.file("out", b"old");
-    for words in [&["export", "bad"][..], &["export", "--older", "bad"], &["join", "good", "bad"], &["join", "bad", "good"]]
-    {
+    for words in [
+        &["export", "bad"][..],
+        &["export", "--older", "bad"],
+        &["join", "good", "bad"],
+        &["join", "bad", "good"],
+        &["tidy", "bad"],
+    ] {
         let done = vmd().current_dir(&folder.0).args(words).args(["-o", "out"]).output().unwrap();
         assert_eq!(err(&done), "vmd: bad: refused 2: the file is not a VMD take\n", "{words:?}");
         assert_eq!((status(&done), out(&done)), (1, String::new()));
@@ -413,6 +509,14 @@ fn usage() {
         &["join", "a", "b", "--", "-o", "c"],
         &["join", "-o", "a", "b", "c"],
         &["join", "-", "-", "-o", "b"],
+        &["tidy"],
+        &["tidy", "a"],
+        &["tidy", "-o", "b"],
+        &["tidy", "a", "b", "-o", "c"],
+        &["tidy", "a", "-o"],
+        &["tidy", "-o", "b", "a"],
+        &["tidy", "", "-o", "b"],
+        &["tidy", "a", "-o", "b", "-o", "c"],
         &["season"],
         &["season", "--all"],
         &["season", "-", "-"],
@@ -430,6 +534,10 @@ fn usage() {
         (&["list", "--older", "a"], "list: there is no option '--older'"),
         (&["join", "--older", "a", "b", "-o", "c"], "join: there is no option '--older'"),
         (&["season", "a", "--older"], "season: there is no option '--older'"),
+        (&["tidy", "--older", "a", "-o", "b"], "tidy: there is no option '--older'"),
+        (&["tidy", "a"], "tidy: no output is named: -o OUT names it"),
+        (&["tidy", "-o", "b"], "tidy: one file is needed, IN"),
+        (&["tidy", "a", "b", "-o", "c"], "tidy: one file is needed, IN"),
     ] {
         let done = vmd().args(words).output().unwrap();
         assert_eq!((status(&done), out(&done)), (2, String::new()), "{words:?}");
@@ -443,6 +551,8 @@ fn usage() {
         "vmd export IN -o OUT",
         "vmd export --older IN -o OUT",
         "vmd join FIRST SECOND.. -o OUT",
+        "vmd tidy IN -o OUT",
+        "how many records were kept",
         "vmd season FILE..",
         "Exit status",
         "3 where OUT is the new file",
@@ -461,8 +571,8 @@ fn a_forgotten_output_touches_nothing() {
     let names = ["1.vmd", "2.vmd", "3.vmd"];
     names.iter().zip(&takes).for_each(|(name, take)| drop(folder.file(name, take)));
     // the last: the shell's list stands where OUT was forgotten, and its first take must not be OUT
-    for words in [&["export"][..], &["export", "--older"], &["join"], &["join", "-o"]] {
-        let takes = if words[0] == "export" { &names[..2] } else { &names };
+    for words in [&["export"][..], &["export", "--older"], &["join"], &["join", "-o"], &["tidy"], &["tidy", "-o"]] {
+        let takes = if words[0] == "join" { &names } else { &names[..2] };
         let done = vmd().current_dir(&folder.0).args(words).args(takes).output().unwrap();
         assert_eq!((status(&done), out(&done)), (2, String::new()), "{words:?}");
         assert!(err(&done).contains("-o OUT") && err(&done).lines().count() == 1, "{words:?}: {}", err(&done));
@@ -480,6 +590,8 @@ fn help_after_a_command() {
         &["export", "a", "--help"],
         &["export", "--older", "--help"],
         &["join", "--help", "-o", "a"],
+        &["tidy", "--help"],
+        &["tidy", "a", "-o", "b", "-h"],
         &["season", "a", "--help"],
     ] {
         let done = vmd().args(words).output().unwrap();
@@ -590,7 +702,11 @@ fn no_take_by_its_first_bytes() {
         assert_eq!((status(&season), err(&season)), (1, sentence.clone()));
         assert!(out(&season).starts_with("accepted takes: 0\nrefused takes: 1\n"), "{}", out(&season));
         let named: [&OsStr; 2] = ["-o".as_ref(), to.as_ref()];
-        for words in [&["export".as_ref(), from.as_ref()][..], &["join".as_ref(), good.as_ref(), from.as_ref()]] {
+        for words in [
+            &["export".as_ref(), from.as_ref()][..],
+            &["join".as_ref(), good.as_ref(), from.as_ref()],
+            &["tidy".as_ref(), from.as_ref()],
+        ] {
             let done = run(&[words, &named].concat());
             assert_eq!((status(&done), err(&done)), (1, sentence.clone()));
         }
@@ -600,14 +716,19 @@ fn no_take_by_its_first_bytes() {
 
 /// No memory for what is to be written: the take itself can be read.
 #[test]
-fn a_join_that_does_not_fit_memory() {
+fn an_output_that_does_not_fit_memory() {
     let folder = Folder::new("memory");
     let path = folder.file("take", &bones(100_000, 1));
     let to = folder.file("out", b"old");
-    let done = vmd_under("ulimit -v 45000").arg("join").args([&path, &path]).arg("-o").arg(&to).output().unwrap();
-    assert_eq!(status(&done), 2, "{done:?}");
-    assert!(err(&done).contains("no memory"), "{}", err(&done));
-    assert_eq!(fs::read(&to).unwrap(), b"old");
+    for (limit, words) in [
+        (45_000, vec!["join".as_ref(), path.as_os_str(), path.as_os_str()]),
+        (20_000, vec!["tidy".as_ref(), path.as_os_str()]),
+    ] {
+        let done = vmd_under(&format!("ulimit -v {limit}")).args(words).arg("-o").arg(&to).output().unwrap();
+        assert_eq!(status(&done), 2, "{done:?}");
+        assert!(err(&done).contains("no memory for "), "{}", err(&done));
+        assert_eq!(fs::read(&to).unwrap(), b"old");
+    }
 }
 
 /// A join of many takes no more memory than one from left to right, which at its end has all that was read and the output:
@@ -683,6 +804,7 @@ fn a_standard_output_that_takes_nothing() {
         &["export", "take", "-o", "/dev/stdout"],
         &["export", "--older", "take", "-o", "-"],
         &["join", "take", "take", "-o", "-"],
+        &["tidy", "take", "-o", "-"],
         &["list", "take"],
         &["season", "take", "take"],
         &["list", "--help"],
@@ -696,9 +818,10 @@ fn a_standard_output_that_takes_nothing() {
             assert_eq!(err(&done).lines().count(), 1);
         }
         // /dev/null takes everything, however it was opened
+        let lines = if words[0] == "tidy" { told([[3, 0], [0; 2], [0; 2], [0; 2], [0; 2], [0; 2]]) } else { String::new() };
         for settings in ["exec > /dev/null", "exec 1<> /dev/null"] {
             let done = vmd_under(settings).current_dir(&folder.0).args(words).output().unwrap();
-            assert_eq!((status(&done), err(&done)), (0, String::new()), "{settings}: {words:?}");
+            assert_eq!((status(&done), err(&done)), (0, lines.clone()), "{settings}: {words:?}");
         }
     }
     // OUT is a file: standard output is not needed

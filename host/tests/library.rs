@@ -3,12 +3,10 @@ mod common;
 
 use std::array;
 use std::collections::BTreeSet;
-use std::fs;
 use std::ops::Range;
-use std::path::Path;
 use std::thread;
 
-use common::{as_older, at_frames, bones, counts, older_start, start, widened};
+use common::{Random, as_older, at_frames, bones, counts, examples, older_start, start, widened};
 use vmd::{
     Error, Figures, IkState, Mean, NameTable, OwnedParts, Parts, PartsMut, PropertyFrame, Refusal, Season, TableSizes, Take,
 };
@@ -310,18 +308,6 @@ fn property_frames_and_their_ik_states() {
     }
 }
 
-/// Numbers that follow from a seed.
-struct Random(u32);
-
-impl Random {
-    fn below(&mut self, limit: u32) -> usize {
-        self.0 ^= self.0 << 13;
-        self.0 ^= self.0 >> 17;
-        self.0 ^= self.0 << 5;
-        (self.0 % limit) as usize
-    }
-}
-
 /// A step of one of six kinds: from the front or from the back, to the next or over so many.
 fn step<T>(to_come: &mut impl DoubleEndedIterator<Item = T>, kind: usize, over: usize) -> Option<T> {
     match kind {
@@ -340,7 +326,7 @@ fn steps_over_property_frames() {
         let file = with_properties(&properties);
         let take = Take::open(&file).unwrap();
         for seed in 1..200u32 {
-            let mut random = Random(seed.wrapping_mul(0x9E37_79B9));
+            let mut random = Random::new(seed);
             let longest_jump = [1, 3, 17, 50][seed as usize % 4];
             let (mut frames, mut with_states) = (take.property_frames(), take.property_frames_with_ik_states());
             let mut expected = properties.iter().cloned();
@@ -685,6 +671,7 @@ fn an_older_file_reads_as_it_does_widened() {
         assert_eq!(season_of([&older[..]]), season_of([&wide[..]]));
         assert_eq!(vmd::export(&older).unwrap(), vmd::export(&wide).unwrap());
         assert_eq!(vmd::export_size(&older), vmd::export_size(&wide));
+        assert_eq!(vmd::tidy(&older).unwrap(), vmd::tidy(&wide).unwrap());
     }
 }
 
@@ -701,6 +688,9 @@ fn refused_by_all(file: &[u8]) -> u32 {
         vmd::export_older_size(file).unwrap_err().into(),
         vmd::join_size(&good, file).unwrap_err().into(),
         vmd::split_sizes(file).unwrap_err().into(),
+        vmd::tidy(file).unwrap_err(),
+        vmd::tidy_size(file, &mut []).unwrap_err().into(),
+        vmd::tidy_into(file, &mut [], &mut []).unwrap_err().into(),
     ];
     assert!(refusals.iter().all(|refusal| *refusal == refusals[0]), "{refusals:?}");
     assert!(!Season::new().add(file));
@@ -862,13 +852,6 @@ fn refusals_of_the_older_export() {
 }
 
 // ---- parts out of a take
-
-fn examples() -> Vec<Vec<u8>> {
-    let folder = Path::new(env!("CARGO_MANIFEST_DIR")).join("../examples");
-    let files: Vec<_> = fs::read_dir(folder).unwrap().map(|entry| fs::read(entry.unwrap().path()).unwrap()).collect();
-    assert!(files.len() > 1);
-    files
-}
 
 /// The examples, and takes that the builder takes.
 #[test]

@@ -20,13 +20,14 @@ struct Saving {
     old: Vec<u8>,
     /// What the take is once it is saved.
     new: Vec<u8>,
-    options: &'static [&'static str],
+    /// The command, and its options.
+    command: &'static [&'static str],
 }
 
 impl Saving {
     fn of(name: &str, bones_each: u32) -> Saving {
         let (old, new) = (bones(bones_each, 1), bones(bones_each + 1, 2));
-        let saving = Saving { folder: Folder::new(name), old, new, options: &[] };
+        let saving = Saving { folder: Folder::new(name), old, new, command: &["export"] };
         saving.folder.file("new", &saving.new);
         saving.put_back();
         saving
@@ -35,7 +36,7 @@ impl Saving {
     /// The new take is saved as it is, and in the older edition.
     fn in_both_editions(name: &str, bones_each: u32) -> [Saving; 2] {
         let [newer, older] = [Saving::of(name, bones_each), Saving::of(name, bones_each)];
-        [newer, Saving { new: as_older(&older.new), options: &["--older"], ..older }]
+        [newer, Saving { new: as_older(&older.new), command: &["export", "--older"], ..older }]
     }
 
     fn put_back(&self) {
@@ -53,8 +54,7 @@ impl Saving {
 
     fn words<'c>(&self, command: &'c mut Command) -> &'c mut Command {
         command
-            .arg("export")
-            .args(self.options)
+            .args(self.command)
             .arg(self.folder.join("new"))
             .arg("-o")
             .arg(self.take())
@@ -223,6 +223,24 @@ fn expect_failures_told(saving: &Saving) {
     assert!(told > 10);
     assert_eq!(unflushed, 2, "the flush of the folder, and nothing else");
     saving.expect_next_save_works();
+}
+
+/// The take is the tidied one by then: what was kept and dropped is told, and then what failed.
+#[test]
+fn a_tidied_take_whose_folder_is_not_flushed() {
+    let saving = Saving { command: &["tidy"], ..Saving::of("tidied", 1000) };
+    let Some(calls) = system_calls(&saving) else { return };
+    for (call, expected) in [("rename", 2), ("fsync", 3)] {
+        saving.put_back();
+        let call = calls.iter().rfind(|(name, _)| name == call).unwrap();
+        let done = saving.run(&mut injected(call, "error=EIO"));
+        assert_eq!((status(&done), saving.is_new()), (expected, expected == 3), "{call:?}");
+        let said = err(&done);
+        let lines: Vec<_> = said.lines().collect();
+        assert_eq!(lines.len(), if expected == 3 { 7 } else { 1 }, "{said}");
+        assert_eq!(lines[0] == "bones: 1001 kept, 0 dropped", expected == 3, "{said}");
+        assert_eq!(lines.last().unwrap().contains("it is the new file already"), expected == 3, "{said}");
+    }
 }
 
 /// The new file is flushed, and dropped from memory, before it takes the name, and the folder is flushed after.

@@ -14,7 +14,7 @@
 #include <string.h>
 #include <sys/mman.h>
 
-enum { UNWRITTEN = 0xA5, FENCE_ROOM = 1 << 19 };
+enum { UNWRITTEN = 0xA5, FENCE_ROOM = 1 << 23 };
 
 /* ---- what is being tried, and what came of it */
 
@@ -89,8 +89,8 @@ static inline uint8_t *end_of(struct fence *f)
     return f->room + FENCE_ROOM;
 }
 
-/* A buffer with these bytes; a null pointer where there are none, as the interface allows. */
-static inline void *lend(struct fence *f, const void *bytes, size_t n)
+/* A buffer of this many bytes; a null pointer where there are none, as the interface allows. */
+static inline void *make_room(struct fence *f, size_t n)
 {
     uint8_t *end = end_of(f);
     if (n > FENCE_ROOM - 64) {
@@ -100,17 +100,22 @@ static inline void *lend(struct fence *f, const void *bytes, size_t n)
     f->at = end - n;
     f->len = n;
     memset(f->at - 64, UNWRITTEN, 64);
-    if (n == 0)
-        return NULL;
-    memcpy(f->at, bytes, n);
-    return f->at;
+    return n == 0 ? NULL : f->at;
+}
+
+/* A buffer with these bytes. */
+static inline void *lend(struct fence *f, const void *bytes, size_t n)
+{
+    void *at = make_room(f, n);
+    if (n > 0)
+        memcpy(at, bytes, n);
+    return at;
 }
 
 /* A buffer to be written to. */
 static inline void *lend_unwritten(struct fence *f, size_t n)
 {
-    static const uint8_t known[FENCE_ROOM];
-    void *at = lend(f, known, n);
+    void *at = make_room(f, n);
     memset(f->at, UNWRITTEN, n);
     return at;
 }

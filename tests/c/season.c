@@ -6,6 +6,7 @@
  */
 #include "check.h"
 #include "expect.h"
+#include "random.h"
 #include "vmd.h"
 
 enum { COUNTS = 12, FIGURES = 11 };
@@ -185,20 +186,6 @@ static void add_take(struct season *s, const struct take *t, enum manner manner)
 }
 
 /* ---- any numbers */
-
-static uint64_t random_u64(void)
-{
-    static uint64_t state = 20261115;
-    uint64_t z = state += 0x9E3779B97F4A7C15;
-    z = (z ^ z >> 30) * 0xBF58476D1CE4E5B9;
-    z = (z ^ z >> 27) * 0x94D049BB133111EB;
-    return z ^ z >> 31;
-}
-
-static size_t random_below(size_t n)
-{
-    return (size_t)(random_u64() % n);
-}
 
 /* Small, near the largest value, a power of two, or any. */
 static uint64_t random_figure(void)

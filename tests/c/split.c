@@ -518,20 +518,6 @@ static void try_names_of_both(const char *what, const struct name *names, size_t
     }
 }
 
-/* A name of this length that a number has: its digits to the base 8, the last ones first or last. */
-static struct name numbered(uint32_t number, size_t len, int first)
-{
-    struct name n;
-    size_t k;
-    memset(&n, 0, sizeof n);
-    n.len = len;
-    for (k = 0; k < len; k++) {
-        n.at[first ? k : len - 1 - k] = (uint8_t)(number % 8 * 32 + 7);
-        number /= 8;
-    }
-    return n;
-}
-
 static void names(void)
 {
     enum { MANY = 2200 };

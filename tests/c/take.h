@@ -277,18 +277,23 @@ static inline void put_property(struct bytes *b, const struct property *r, enum 
     }
 }
 
+static inline void put_record(struct bytes *b, const struct take *t, int section, size_t i, enum manner manner)
+{
+    switch (section) {
+    case 0: put_bone(b, &t->bones[i], manner); break;
+    case 1: put_morph(b, &t->morphs[i], manner); break;
+    case 2: put_camera(b, &t->cameras[i], manner); break;
+    case 3: put_light(b, &t->lights[i]); break;
+    case 4: put_self_shadow(b, &t->self_shadows[i]); break;
+    case 5: put_property(b, &t->properties[i], manner); break;
+    }
+}
+
 static inline void put_records(struct bytes *b, const struct take *t, int section, enum manner manner)
 {
     size_t i;
     for (i = 0; i < t->counts[section]; i++)
-        switch (section) {
-        case 0: put_bone(b, &t->bones[i], manner); break;
-        case 1: put_morph(b, &t->morphs[i], manner); break;
-        case 2: put_camera(b, &t->cameras[i], manner); break;
-        case 3: put_light(b, &t->lights[i]); break;
-        case 4: put_self_shadow(b, &t->self_shadows[i]); break;
-        case 5: put_property(b, &t->properties[i], manner); break;
-        }
+        put_record(b, t, section, i, manner);
 }
 
 /* The file whose every section has the take's records so many times over. */
@@ -359,6 +364,20 @@ static inline struct name next_name(size_t len)
     n.len = len;
     for (i = 0; i < len; i++)
         n.at[i] = (uint8_t)next_byte();
+    return n;
+}
+
+/* A name of this length that a number has: its digits to the base 8, the last ones first or last. */
+static inline struct name numbered(uint32_t number, size_t len, int first)
+{
+    struct name n;
+    size_t k;
+    memset(&n, 0, sizeof n);
+    n.len = len;
+    for (k = 0; k < len; k++) {
+        n.at[first ? k : len - 1 - k] = (uint8_t)(number % 8 * 32 + 7);
+        number /= 8;
+    }
     return n;
 }
 

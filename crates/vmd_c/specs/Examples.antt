@@ -6,15 +6,18 @@ use mathlib.Core.List.{List, [], _∷_, _++_}
 use lib.ListN.{replicate}
 use lib.IntN.{pos}
 use lib.Ieee.{nan, fin, ofBits}
-use Rattle.vmd_format.specs.Refusal.{file-ends-early, outside, output-too-short, parts-do-not-fit}
+use Rattle.vmd_format.specs.Refusal.{file-ends-early, outside, output-too-short, parts-do-not-fit, scratch-too-short}
 use Rattle.vmd_format.specs.Answer.{declined, given}
 use Rattle.vmd_format.specs.Records.{Light}
 use Rattle.vmd_format.specs.Opening.{Scan, Opening}
 use Rattle.vmd_format.specs.Computed.{computed}
 use Rattle.vmd_places.specs.Meaning.{ik-place}
 use Rattle.vmd_places.specs.Parts.{file-part, part-in}
-use Rattle.vmd_c.specs.Meaning.{status, slot-after, counts-of, places-of, totals-of, extent-at, scan-at, bone-words, morph-words, camera-words, light-values, light-words, self-shadow-words, property-words, part-words, joined-words, size-words, file-of, season-counts, season-figures, section-at, season-at, mean-words}
-use Rattle.vmd_base.specs.declared.VmdRefusal.the-variants.{PartsDoNotFit}
+use Rattle.vmd_c.specs.Meaning.{status, slot-after, counts-of, places-of, totals-of, extent-at, scan-at, bone-words, morph-words, camera-words, light-values, light-words, self-shadow-words, property-words, part-words, joined-words, size-words, count-words, file-of, season-counts, season-figures, section-at, season-at, mean-words}
+use Rattle.vmd_base.specs.declared.VmdRefusal.the-variants.{PartsDoNotFit, ScratchTooShort}
+use Rattle.vmd_tidy.specs.Meaning.{tidy-answer}
+use Rattle.vmd_tidy.specs.declared.VmdTidyAnswer.the-variants.{Tidied}
+use Rattle.vmd_tidy.specs.declared.VmdTidyAnswer.the-variants as tidied
 use Rattle.vmd_split.specs.Meaning.{split-is}
 use Rattle.vmd_split.specs.declared.VmdSplit.the-variants.{Refused, Tables}
 use Rattle.vmd_season.specs.Season.{Season}
@@ -118,6 +121,24 @@ pub table-sizes :
     × (size-words (record { bone-names = 1; bone-name-bytes = 2; morph-names = 3; morph-name-bytes = 4 }) ≡ 1 ∷ 2 ∷ 3 ∷ 4 ∷ [])
 unfolding size-words
 table-sizes = (refl, refl, refl)
+
+-- ---- a tidied take
+
+pub tidied-numbers :
+    (tidy-answer (Tidied (record {
+      bytes = 1;
+      kept = record { bones = 2; morphs = 3; cameras = 4; lights = 5; «self_shadows» = 6; properties = 7 };
+      dropped = record { bones = 8; morphs = 9; cameras = 10; lights = 11; «self_shadows» = 12; properties = 13 };
+    }))
+    ≡ given (record {
+      bytes = 1;
+      kept = record { bones = 2; morphs = 3; cameras = 4; lights = 5; self-shadows = 6; properties = 7 };
+      dropped = record { bones = 8; morphs = 9; cameras = 10; lights = 11; self-shadows = 12; properties = 13 };
+    }))
+    × (tidy-answer (tidied.Refused ScratchTooShort) ≡ declined scratch-too-short)
+    × (count-words (record { bones = 2; morphs = 3; cameras = 4; lights = 5; self-shadows = 6; properties = 7 }) ≡ 2 ∷ 3 ∷ 4 ∷ 5 ∷ 6 ∷ 7 ∷ [])
+unfolding count-words
+tidied-numbers = (refl, refl, refl)
 
 -- ---- a season
 

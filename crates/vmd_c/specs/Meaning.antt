@@ -12,6 +12,7 @@ use Rattle.vmd_format.specs.Records.{Bone, Morph, Camera, Light, SelfShadow}
 use Rattle.vmd_format.specs.Opening.{Extent, Scan, Opening}
 use Rattle.vmd_format.specs.Fetch.{PropertyHead}
 use Rattle.vmd_base.specs.declared.VmdPart.{VmdPart}
+use Rattle.vmd_tidy.specs.Tidied.{Counts}
 use Rattle.vmd_split.specs.Split.{TableSizes}
 use Rattle.vmd_season.specs.Season.{SectionFigures, Season, Mean}
 
@@ -103,6 +104,10 @@ joined-words (a ∷ m) n = 0 ∷ 30 ∷ length (a ∷ m) ∷ []
 -- the sizes of two name tables
 unfoldable pub size-words : TableSizes → List ℕ
 size-words t = t .bone-names ∷ t .bone-name-bytes ∷ t .morph-names ∷ t .morph-name-bytes ∷ []
+
+-- how many records each section has
+unfoldable pub count-words : Counts → List ℕ
+count-words k = k .bones ∷ k .morphs ∷ k .cameras ∷ k .lights ∷ k .self-shadows ∷ k .properties ∷ []
 
 -- the one of two files with that index
 unfoldable pub file-of : List ℕ → List ℕ → ℕ → List ℕ

@@ -19,6 +19,7 @@ use vmd_scan::VmdSections;
 use vmd_season::VmdSeason;
 use vmd_season::VmdSectionFigures;
 use vmd_split::VmdSplit;
+use vmd_tidy::VmdTidyAnswer;
 ghost use mathlib.Core.Path.{_≡_};
 ghost use mathlib.Core.List.{[], _∷_};
 ghost use Prim.Native.Nat.{_*_};
@@ -37,9 +38,11 @@ ghost use Rattle.vmd_reader.specs.Meaning.{opening-is};
 ghost use Rattle.vmd_output.specs.Meaning.{written-answer};
 ghost use Rattle.vmd_export.specs.Saved.{exported-answer, exported-output, older-answer, older-output, joined-answer, joined-output, export-size, older-size, join-size};
 ghost use Rattle.vmd_checks.specs.Meaning.{parts-of};
-ghost use Rattle.vmd_c.specs.Meaning.{status, slot-after, counts-of, places-of, totals-of, scan-at, bone-words, morph-words, camera-words, light-values, light-words, self-shadow-words, property-words, part-words, joined-words, size-words, season-counts, season-figures, season-at, mean-words};
+ghost use Rattle.vmd_c.specs.Meaning.{status, slot-after, counts-of, places-of, totals-of, scan-at, bone-words, morph-words, camera-words, light-values, light-words, self-shadow-words, property-words, part-words, joined-words, size-words, count-words, season-counts, season-figures, season-at, mean-words};
 ghost use Rattle.vmd_split.specs.Split.{split, split-answer, split-sizes, parts-left, buffers};
 ghost use Rattle.vmd_split.specs.Meaning.{split-is};
+ghost use Rattle.vmd_tidy.specs.Tidied.{tidied-answer, tidied-output, tidied-scratch, size-answer, size-scratch};
+ghost use Rattle.vmd_tidy.specs.Meaning.{tidy-answer};
 ghost use Rattle.vmd_season.specs.Season.{no-takes, with-file, mean};
 ghost use Rattle.vmd_season.specs.Meaning.{season-is};
 
@@ -550,6 +553,90 @@ pub extern "C" fn vmd_joined_model<'a>(first: &'a [u8], second: &'a [u8], part: 
         return;
     }
     *part = [0, vmd_base::MAGIC_SIZE as u64, n as u64];
+}
+
+// ---- tidying
+
+// Hands over what tidying answers: the status is the result, and the slots receive the length and both numbers of each section.
+fn report_tidied(
+    answer: VmdTidyAnswer,
+    bytes: &mut u64,
+    kept: &mut [u32; 6],
+    dropped: &mut [u32; 6],
+) -> u32
+    ensures { λ r. ⌜ (r ≡ status (tidy-answer answer))
+        × (now (bytes .exit) ≡ slot-after (now (bytes .entry)) (λ t. t .bytes) (tidy-answer answer))
+        × (now (kept .exit) ≡ slot-after (now (kept .entry)) (λ t. count-words (t .kept)) (tidy-answer answer))
+        × (now (dropped .exit) ≡ slot-after (now (dropped .entry)) (λ t. count-words (t .dropped)) (tidy-answer answer)) ⌝ }
+{
+    match answer {
+        VmdTidyAnswer::Refused(k) => k.number(),
+        VmdTidyAnswer::Tidied(t) => {
+            let k = t.kept;
+            let d = t.dropped;
+            *bytes = t.bytes;
+            *kept = [
+                k.bones,
+                k.morphs,
+                k.cameras,
+                k.lights,
+                k.self_shadows,
+                k.properties,
+            ];
+            *dropped = [
+                d.bones,
+                d.morphs,
+                d.cameras,
+                d.lights,
+                d.self_shadows,
+                d.properties,
+            ];
+            0
+        }
+    }
+}
+
+#[no_mangle]
+pub extern "C" fn vmd_tidy_size(
+    file: &[u8],
+    scratch: &mut [u64],
+    size: &mut u64,
+    kept: &mut [u32; 6],
+    dropped: &mut [u32; 6],
+) -> u32
+    ensures { λ r. ⌜ (let answer = size-answer lenient (now (file .entry)) (now (scratch .entry)) in
+        (r ≡ status answer)
+        × (now (size .exit) ≡ slot-after (now (size .entry)) (λ t. t .bytes) answer)
+        × (now (kept .exit) ≡ slot-after (now (kept .entry)) (λ t. count-words (t .kept)) answer)
+        × (now (dropped .exit) ≡ slot-after (now (dropped .entry)) (λ t. count-words (t .dropped)) answer)
+        × (now (scratch .exit) ≡ size-scratch lenient (now (file .entry)) (now (scratch .entry)))) ⌝ }
+{
+    report_tidied(vmd_tidy::tidy_vmd_size(file, scratch), size, kept, dropped)
+}
+
+#[no_mangle]
+pub extern "C" fn vmd_tidy_animation(
+    file: &[u8],
+    scratch: &mut [u64],
+    out: &mut [u8],
+    written: &mut u64,
+    kept: &mut [u32; 6],
+    dropped: &mut [u32; 6],
+) -> u32
+    ensures { λ r. ⌜ (let answer = tidied-answer lenient (now (file .entry)) (now (scratch .entry)) (now (out .entry)) in
+        (r ≡ status answer)
+        × (now (written .exit) ≡ slot-after (now (written .entry)) (λ t. t .bytes) answer)
+        × (now (kept .exit) ≡ slot-after (now (kept .entry)) (λ t. count-words (t .kept)) answer)
+        × (now (dropped .exit) ≡ slot-after (now (dropped .entry)) (λ t. count-words (t .dropped)) answer)
+        × (now (out .exit) ≡ tidied-output lenient (now (file .entry)) (now (scratch .entry)) (now (out .entry)))
+        × (now (scratch .exit) ≡ tidied-scratch lenient (now (file .entry)) (now (scratch .entry)) (now (out .entry)))) ⌝ }
+{
+    report_tidied(
+        vmd_tidy::tidy_vmd_animation(file, scratch, out),
+        written,
+        kept,
+        dropped,
+    )
 }
 
 // ---- building

@@ -37,7 +37,7 @@ module _ (m : Manner) where
   pub exported-is : {s : List ℕ} {t : Take} (out : List ℕ) → Accepted m s t → Enough t out → exported m s out ≡ given (write-take t)
   exported-is {s} {t} out h n = left-whole (write-take t) out (export-file m s) (export-is m h) n
 
-  joined-is : (a b : List ℕ) {t u : Take} (out : List ℕ) → read-take m a ≡ given t → read-take m b ≡ given u → Fit t u → Enough (join t u) out
+  pub joined-is : (a b : List ℕ) {t u : Take} (out : List ℕ) → read-take m a ≡ given t → read-take m b ≡ given u → Fit t u → Enough (join t u) out
       → joined m a b out ≡ given (write-take (join t u))
   joined-is a b {t} {u} out h k f n = left-whole (write-take (join t u)) out (join-files m a b) (join-is m a b h k f) n
 

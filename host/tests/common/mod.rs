@@ -63,6 +63,35 @@ pub fn at_frames(frames: [Vec<u32>; 6]) -> Vec<u8> {
     file
 }
 
+/// The takes of the repository's folder `examples`.
+pub fn examples() -> Vec<Vec<u8>> {
+    let folder = Path::new(env!("CARGO_MANIFEST_DIR")).join("../examples");
+    let files: Vec<_> = fs::read_dir(folder).unwrap().map(|entry| fs::read(entry.unwrap().path()).unwrap()).collect();
+    assert!(files.len() > 1);
+    files
+}
+
+/// Numbers that follow from a seed.
+pub struct Random(u32);
+
+impl Random {
+    /// Of a seed that is not 0.
+    pub fn new(seed: u32) -> Random {
+        Random(seed.wrapping_mul(0x9E37_79B9))
+    }
+
+    pub fn next(&mut self) -> u32 {
+        self.0 ^= self.0 << 13;
+        self.0 ^= self.0 >> 17;
+        self.0 ^= self.0 << 5;
+        self.0
+    }
+
+    pub fn below(&mut self, limit: u32) -> usize {
+        (self.next() % limit) as usize
+    }
+}
+
 /// A folder of the test's own, removed with all in it when it goes out of scope.
 pub struct Folder(pub PathBuf);
 

@@ -46,7 +46,7 @@ loop-again c =
     let l = e .before .before .before in
     let v = l .loop .inv in
     let h : l .loop .i < length (l .loop .leads) = omega (arith, v .3 .long) in
-    let k : l .loop .i < length (l .loop .list) = omega (arith, v .4 .long) in (
+    let k : l .loop .m < length (l .loop .list) = omega (arith, v .4 .long, v .2 .few) in (
       omega arith,
       leads-turn (v .1) (v .2) h k (e .earlier-record .ensures .0) (e .earlier-record .ensures .1),
       rw (c .next-if .ensures) (lists-turn (v .1) (v .2) h k (e .earlier-record .ensures .0) (e .earlier-record .ensures .1)),

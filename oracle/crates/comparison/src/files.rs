@@ -1,21 +1,21 @@
-//! One file of either edition through every call of the reader and the exporter, converted, split into parts, and added to a
-//! season.
+//! One file of either edition through every call of the reader and the exporter, converted, split into parts, added to a
+//! season, and tidied.
 
 use crate::check::{check_size, check_written, same, Checked, SLOT};
 use crate::lent::{Input, Output, Scratch};
 use crate::library::{self, Opening};
 use crate::season::SeasonCheck;
 use crate::split::SplitCheck;
+use crate::tidy::TidyCheck;
 use mmd_anim_format::vmd::{
     read_header, VmdParsedAnimation, VmdParsedBoneFrame, VmdParsedCameraFrame, VmdParsedLightFrame, VmdParsedMorphFrame,
     VmdParsedPropertyFrame, VmdParsedSelfShadowFrame,
 };
 use oracle::files::{IK_STATE_SIZE, SIZES};
 use oracle::older::{self, is_older};
-use oracle::original::{self, MAGIC_DIFFERS, MODEL_NAME_TOO_LONG};
+use oracle::original::{self, MAGIC_DIFFERS, MODEL_NAME_TOO_LONG, SCRATCH_TOO_SHORT};
 
 const OUTSIDE: u32 = 4;
-pub const SCRATCH_TOO_SHORT: u32 = 3;
 const UNSET: u32 = 0xdead_beef;
 
 /// By request f) a scratch has a place for the first of each sixteen property frames.
@@ -33,6 +33,7 @@ pub struct FileCheck {
     pub lights: LightNans,
     pub split: SplitCheck,
     pub season: SeasonCheck,
+    pub tidy: TidyCheck,
 }
 
 /// Files that begin with the older magic, and how many of them are accepted; what the converter wrote and refused with 15.
@@ -78,6 +79,7 @@ impl FileCheck {
         self.check_converted(file, &exported)?;
         self.split.check(file, &take, &exported)?;
         self.season.check(file, take.as_ref().ok())?;
+        self.tidy.check(file, &take, &exported)?;
         if is_older(file) {
             same("the original's own answer to an older file", original::read_unwidened(file).err(), Some(MAGIC_DIFFERS))?;
             self.editions.older += 1;

@@ -1,13 +1,14 @@
 //! The proved library behind functions on slices. A self-test has one of its results altered here.
 
 use crate::alter::{altered, Alter};
-use crate::files::{PER_PLACE, SCRATCH_TOO_SHORT};
+use crate::files::PER_PLACE;
 use crate::header;
 use crate::header::indices::{VMD_TOTAL_IK_STATES, VMD_TOTAL_LARGEST_FRAME, VMD_TOTAL_SMALLEST_FRAME};
+use mmd_anim_format::vmd::VmdParsedMorphFrame;
 use oracle::files::{Pieces, MAGIC};
 use oracle::names::is_lead;
 use oracle::older::{is_older, NARROWER, OLDER_MAGIC};
-use oracle::original;
+use oracle::original::{self, SCRATCH_TOO_SHORT};
 use oracle::parts::{Columns, Parts};
 use std::borrow::Cow;
 
@@ -501,6 +502,151 @@ pub fn joined_model(first: &[u8], second: &[u8]) -> [u64; 3] {
         part[1] += 1;
     }
     part
+}
+
+// ---- tidying
+
+/// Records kept and dropped of each section.
+#[derive(Clone, PartialEq, Eq, Debug)]
+pub struct Figures {
+    pub kept: [u32; 6],
+    pub dropped: [u32; 6],
+}
+
+pub fn tidy_size(file: &[u8], scratch: &mut [u64], size: &mut u64, figures: &mut Figures) -> u32 {
+    let answer = unsafe {
+        let (kept, dropped) = (&mut figures.kept, &mut figures.dropped);
+        header::vmd_tidy_size(pointer(file), file.len(), pointer_mut(scratch), scratch.len(), size, kept, dropped)
+    };
+    if altered(Alter::TidySize) && answer == 0 {
+        *size = original::export_file(file).map_or(0, |bytes| bytes.len() as u64);
+    }
+    alter_tidied_scratch(answer, scratch, figures);
+    answer
+}
+
+pub fn tidy_animation(file: &[u8], scratch: &mut [u64], out: &mut [u8], written: &mut u64, figures: &mut Figures) -> u32 {
+    if let Some(refusal) = tidying_refused(file, scratch.len(), out.len()) {
+        return refusal;
+    }
+    let (places, out_len) = (scratch.len(), out.len());
+    let answer = unsafe {
+        let (kept, dropped) = (&mut figures.kept, &mut figures.dropped);
+        header::vmd_tidy_animation(
+            pointer(file),
+            file.len(),
+            pointer_mut(scratch),
+            places,
+            pointer_mut(out),
+            out_len,
+            written,
+            kept,
+            dropped,
+        )
+    };
+    if answer == 0 {
+        alter_tidied(file, out, written);
+    } else if altered(Alter::TidyInRefusal) {
+        out.iter_mut().take(1).for_each(|byte| *byte ^= 1);
+    }
+    alter_tidied_scratch(answer, scratch, figures);
+    answer
+}
+
+/// A refusal that the library does not give, or not first; nothing is written.
+fn tidying_refused(file: &[u8], places: usize, out_len: usize) -> Option<u32> {
+    let take = || original::read(file).ok();
+    let exported_len = || take().map_or(0, |take| original::export(&take).len());
+    let tidied_len = || take().map_or(0, |take| original::export(&original::tidied(&take)).len());
+    let records = || take().map_or(0, |take| original::counts_of(&take).iter().sum());
+    let too_short =
+        altered(Alter::TidyExportAsked) && out_len < exported_len() || altered(Alter::TidyOutputFirst) && out_len < tidied_len();
+    let few_places = altered(Alter::TidyPlaceForEach) && places < records()
+        || altered(Alter::TidyScratchFirst) && places == 0 && take().is_none();
+    if too_short {
+        Some(original::OUTPUT_TOO_SHORT)
+    } else if few_places {
+        Some(SCRATCH_TOO_SHORT)
+    } else {
+        None
+    }
+}
+
+fn alter_tidied(file: &[u8], out: &mut [u8], written: &mut u64) {
+    let end = *written as usize;
+    if altered(Alter::TidyPastItsEnd) && end < out.len() {
+        out[end] ^= 1;
+    }
+    if !TIDIED_OTHERWISE.into_iter().any(altered) {
+        return;
+    }
+    let bytes = mistaken(file, &out[..end]);
+    if bytes.len() <= out.len() {
+        out[..bytes.len()].copy_from_slice(&bytes);
+        *written = bytes.len() as u64;
+    }
+}
+
+/// What a tidying with one of these mistakes would have written.
+fn mistaken(file: &[u8], written: &[u8]) -> Vec<u8> {
+    let read = || original::read(file).expect("a file that was tidied");
+    let mut tidied = original::read(written).expect("a tidied file");
+    if altered(Alter::TidyFirstKept) {
+        let records = read().morph_frames;
+        for kept in &mut tidied.morph_frames {
+            *kept = records.iter().find(|record| same_key(record, kept)).expect("a record that was kept").clone();
+        }
+    } else if altered(Alter::TidyTracksByName) {
+        tidied.bone_frames.sort_by(|a, b| a.bone_name_bytes.cmp(&b.bone_name_bytes));
+    } else if altered(Alter::TidyTrackUnsorted) {
+        tidied.light_frames.reverse();
+    } else if altered(Alter::TidyLastFrameDropped) {
+        tidied.morph_frames.pop();
+    } else if altered(Alter::TidyOneTrack) {
+        tidied.morph_frames.sort_by_key(|record| record.frame);
+    } else if altered(Alter::TidyIkStates) {
+        let frames = &mut tidied.property_frames;
+        (1..frames.len()).for_each(|i| frames[i - 1].ik_states = frames[i].ik_states.clone());
+    } else if altered(Alter::TidyModelName) {
+        tidied.metadata.model_name_bytes.clear();
+    } else if altered(Alter::TidyDropsNothing) {
+        tidied = read();
+    }
+    original::export(&tidied)
+}
+
+const TIDIED_OTHERWISE: [Alter; 8] = [
+    Alter::TidyFirstKept,
+    Alter::TidyTracksByName,
+    Alter::TidyTrackUnsorted,
+    Alter::TidyLastFrameDropped,
+    Alter::TidyOneTrack,
+    Alter::TidyIkStates,
+    Alter::TidyModelName,
+    Alter::TidyDropsNothing,
+];
+
+fn same_key(a: &VmdParsedMorphFrame, b: &VmdParsedMorphFrame) -> bool {
+    a.frame == b.frame && a.morph_name_bytes == b.morph_name_bytes
+}
+
+fn alter_tidied_scratch(answer: u32, scratch: &mut [u64], figures: &mut Figures) {
+    let records = |figures: &Figures| (0..6).map(|i| figures.kept[i] + figures.dropped[i]).max().unwrap() as usize;
+    if answer != 0 {
+        if altered(Alter::TidyScratchInRefusal) && answer == original::OUTPUT_TOO_SHORT {
+            scratch.iter_mut().take(1).for_each(|place| *place = 0);
+        } else if altered(Alter::TidyFiguresInRefusal) && answer == SCRATCH_TOO_SHORT {
+            figures.dropped[5] = 0;
+        }
+    } else if altered(Alter::TidyScratchLeft) {
+        scratch.iter_mut().take(records(figures)).for_each(|place| *place = 1);
+    } else if altered(Alter::TidyScratchPastItsEnd) {
+        scratch.iter_mut().skip(records(figures)).for_each(|place| *place = 0);
+    } else if altered(Alter::TidyKept) {
+        figures.kept.swap(3, 4);
+    } else if altered(Alter::TidyDropped) {
+        figures.dropped = [0; 6];
+    }
 }
 
 // ---- building

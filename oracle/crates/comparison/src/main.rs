@@ -1,8 +1,8 @@
 //! The proved library and the original Rust on the same inputs, every result compared.
 //!
 //!     compare N SEED          N files, N part sets, N / 5 older files, N / 10 files whose names repeat, joins, joins with
-//!                             older files and names, N / 20 files of up to 70 property frames and N / 100 older ones,
-//!                             beside the fixed inputs
+//!                             older files and names, N / 5 takes to tidy, N / 20 files of up to 70 property frames and
+//!                             N / 100 older ones, beside the fixed inputs
 //!     compare self-test       alters one result after another: each has to be reported
 
 mod alter;
@@ -19,6 +19,7 @@ mod runs;
 mod season;
 mod split;
 mod tally;
+mod tidy;
 
 use alter::{alter, Alter, ALTERATIONS};
 use std::process::ExitCode;
@@ -67,7 +68,10 @@ fn compare(cases: u64, seed: u64) -> ExitCode {
     print_outside(&parts_check.outside);
     let huge = timed("counts at 32 bits", huge::run);
     huge.print();
-    let tallies = [&names, &files, &older, &joins, &older_joins, &parts, &huge];
+    let (tidying, tidy_check) = timed("tidying", || runs::tidying(cases / 5, seed));
+    tidying.print();
+    print_tidied(&tidy_check.tally);
+    let tallies = [&names, &files, &older, &joins, &older_joins, &parts, &huge, &tidying];
     let cases: u64 = tallies.iter().map(|tally| tally.cases()).sum();
     let differences: usize = tallies.iter().map(|tally| tally.differences.len()).sum();
     println!("{cases} cases, {} of them older files, {differences} differences", older_check.editions.older);
@@ -93,6 +97,7 @@ fn print_files(check: &files::FileCheck) {
     println!("  converted to the older edition: {}, refused with 15: {}", check.editions.converted, check.editions.too_long);
     print_splits(&check.split);
     print_seasons(&check.season);
+    print_tidied(&check.tidy.tally);
 }
 
 fn print_older(editions: &files::EditionTally) {
@@ -126,6 +131,14 @@ fn print_seasons(check: &season::SeasonCheck) {
     println!("    and {} with which a figure would pass 64 bits", check.passed);
 }
 
+fn print_tidied(tally: &tidy::TidyTally) {
+    println!(
+        "  tidied: {} takes, of {} records are dropped, {} others come in another order",
+        tally.takes, tally.dropped_from, tally.reordered
+    );
+    println!("    {} tracks with {} records kept and {} dropped", tally.tracks, tally.kept, tally.dropped);
+}
+
 fn print_outside(tally: &parts::OutsideTally) {
     println!(
         "  {} of the sets have a name outside the domain; the original gives the same answer for {}",
@@ -140,7 +153,7 @@ fn print_outside(tally: &parts::OutsideTally) {
 
 const SELF_TEST_CASES: u64 = 3000;
 
-fn tallies() -> [Tally; 6] {
+fn tallies() -> [Tally; 7] {
     [
         runs::names(SELF_TEST_CASES, 1).0,
         runs::files(SELF_TEST_CASES, 1).0,
@@ -148,6 +161,7 @@ fn tallies() -> [Tally; 6] {
         runs::joins(SELF_TEST_CASES, 1),
         runs::older_joins(SELF_TEST_CASES, 1),
         runs::parts(SELF_TEST_CASES, 1).0,
+        runs::tidying(SELF_TEST_CASES, 1).0,
     ]
 }
 

@@ -6,6 +6,8 @@ use crate::lent::Output;
 use crate::name_test::NameTally;
 use crate::parts::PartsCheck;
 use crate::tally::Tally;
+use crate::tidy::TidyCheck;
+use oracle::crowded;
 use oracle::files::{self, file_kind, file_of, FileKind, FILE_KINDS};
 use oracle::named::{self, FEW_NAMES};
 use oracle::names;
@@ -26,6 +28,7 @@ const OLDER: u64 = 7 << 60;
 const OLDER_JOINS: u64 = 8 << 60;
 const PROPERTIES: u64 = 9 << 60;
 const OLDER_PROPERTIES: u64 = 10 << 60;
+const CROWDED: u64 = 11 << 60;
 
 fn hex(bytes: &[u8]) -> String {
     bytes.iter().map(|byte| format!("{byte:02x}")).collect()
@@ -52,7 +55,7 @@ fn shown_file(file: &[u8]) -> String {
 pub fn files(cases: u64, seed: u64) -> (Tally, FileCheck) {
     let fixed = [DOCUMENT_01, EVERY_PREFIX, EVERY_CHANGE, LARGE_COUNTS, MANY_NAMES, FRAME_NUMBERS];
     let labels: Vec<&str> = fixed.into_iter().chain(FILE_KINDS.map(FileKind::label)).chain([FEW_NAMES, UP_TO_70]).collect();
-    let title = "Files: opening, records, names, export, parts, season figures";
+    let title = "Files: opening, records, names, export, parts, season figures, tidying";
     let (mut tally, mut check) = (Tally::new(title, &labels), FileCheck::default());
     for (label, file) in fixed_files(seed) {
         tally.count(label, check.check(&file), || shown_file(&file));
@@ -101,7 +104,7 @@ pub fn older_files(cases: u64, seed: u64) -> (Tally, FileCheck) {
     let fixed = [BARE_LENGTHS, DOCUMENT_01, EVERY_OLDER_PREFIX, EVERY_HEADER_CHANGE, MIXED_MAGICS, LARGE_COUNTS, FRAME_NUMBERS];
     let drawn = [older::HEADER_CUT, older::HEADER_OTHER, FEW_NAMES, UP_TO_70];
     let labels: Vec<&str> = fixed.into_iter().chain(FILE_KINDS.map(FileKind::label)).chain(drawn).collect();
-    let title = "Older files, widened for the original: opening, records, names, export, parts, season figures";
+    let title = "Older files, widened for the original: opening, records, names, export, parts, season figures, tidying";
     let (mut tally, mut check) = (Tally::new(title, &labels), FileCheck::default());
     for (label, file) in fixed_older_files(seed) {
         tally.count(label, check.check(&file), || shown_file(&file));
@@ -210,6 +213,24 @@ fn pair(random: &mut Random) -> (&'static str, Vec<u8>, Vec<u8>) {
         }
         _ => (TWO_WHOLE, files::pieces(3, random).file(), files::pieces(3, random).file()),
     }
+}
+
+// ---- tidying
+
+const MANY_RECORDS: &str = "thousands of records";
+
+pub fn tidying(cases: u64, seed: u64) -> (Tally, TidyCheck) {
+    let labels = [MANY_RECORDS, crowded::CROWDED, crowded::OLDER_CROWDED, crowded::JOINED, crowded::DAMAGED];
+    let title = "Tidying: expected from the original's last keys per frame, track by track";
+    let (mut tally, mut check) = (Tally::new(title, &labels), TidyCheck::default());
+    for file in crowded::many_records(&mut Random::for_case(seed, FIXED + 3)) {
+        tally.count(MANY_RECORDS, check.check_file(&file), || shown_file(&file));
+    }
+    for case in 0..cases {
+        let (label, file) = crowded::crowded_file(&mut Random::for_case(seed, CROWDED + case));
+        tally.count(label, check.check_file(&file), || format!("random take {case} to tidy: {}", shown_file(&file)));
+    }
+    (tally, check)
 }
 
 // ---- parts

@@ -2,7 +2,7 @@
 
 use crate::check::{same, Checked, SLOT};
 use crate::library::{self, Season};
-use oracle::original::VmdParsedAnimation;
+use oracle::original::{self, VmdParsedAnimation};
 use std::collections::HashSet;
 
 /// Files of the longest list.
@@ -71,14 +71,7 @@ impl SeasonCheck {
 
 /// The figures with the take, where none of them passes 64 bits.
 fn counted(season: &Season, take: &VmdParsedAnimation) -> Option<Season> {
-    let counts = [
-        take.bone_frames.len(),
-        take.morph_frames.len(),
-        take.camera_frames.len(),
-        take.light_frames.len(),
-        take.self_shadow_frames.len(),
-        take.property_frames.len(),
-    ];
+    let counts = original::counts_of(take);
     let bone_names: HashSet<&[u8]> = take.bone_frames.iter().map(|frame| &frame.bone_name_bytes[..]).collect();
     let morph_names: HashSet<&[u8]> = take.morph_frames.iter().map(|frame| &frame.morph_name_bytes[..]).collect();
     let added = counts.into_iter().chain([counts.iter().sum(), bone_names.len(), morph_names.len(), 1]);

@@ -1,5 +1,6 @@
 //! What the original Rust answers, and the inputs that it is asked about.
 
+pub mod crowded;
 pub mod files;
 pub mod named;
 pub mod names;

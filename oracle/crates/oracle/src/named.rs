@@ -38,7 +38,7 @@ pub fn few_names(random: &mut Random) -> Vec<u8> {
 }
 
 /// Good ones where the builder is to take them; else any, many of them the beginning of another.
-fn some_names(good: bool, random: &mut Random) -> Vec<Vec<u8>> {
+pub(crate) fn some_names(good: bool, random: &mut Random) -> Vec<Vec<u8>> {
     let mut some: Vec<Vec<u8>> = Vec::new();
     for _ in 0..1 + random.below(6) {
         let mut name = match some.last() {
@@ -57,7 +57,7 @@ fn some_names(good: bool, random: &mut Random) -> Vec<Vec<u8>> {
 }
 
 /// One of the names in a field, with zeros or any bytes after its own zero.
-fn put_name(field: &mut [u8], names: &[Vec<u8>], random: &mut Random) {
+pub(crate) fn put_name(field: &mut [u8], names: &[Vec<u8>], random: &mut Random) {
     let name = &names[random.below(names.len())];
     if random.one_in(2) {
         random.fill(field);

@@ -7,12 +7,13 @@ use mmd_anim_format::error::ImportError;
 pub use mmd_anim_format::vmd::VmdParsedAnimation;
 use mmd_anim_format::vmd::{
     build_vmd_animation_from_parts, export_vmd_animation, parse_vmd_animation, VmdPartsDescriptor, VmdPartsInput,
-    VmdPartsNameEntry,
+    VmdPartsNameEntry, VmdPoseExport,
 };
 use std::collections::HashMap;
 
 pub const ENDS_EARLY: u32 = 1;
 pub const MAGIC_DIFFERS: u32 = 2;
+pub const SCRATCH_TOO_SHORT: u32 = 3;
 pub const PARTS_NOT_WHOLE: u32 = 5;
 pub const OUTPUT_TOO_SHORT: u32 = 13;
 pub const PARTS_DO_NOT_FIT: u32 = 14;
@@ -70,6 +71,56 @@ pub fn join_files(first: &[u8], second: &[u8]) -> Result<Vec<u8>, u32> {
     joined.self_shadow_frames.extend(second.self_shadow_frames);
     joined.property_frames.extend(second.property_frames);
     Ok(export(&joined))
+}
+
+/// How many records a take has in each section.
+pub fn counts_of(take: &VmdParsedAnimation) -> [usize; 6] {
+    [
+        take.bone_frames.len(),
+        take.morph_frames.len(),
+        take.camera_frames.len(),
+        take.light_frames.len(),
+        take.self_shadow_frames.len(),
+        take.property_frames.len(),
+    ]
+}
+
+// ---- tidying
+
+/// Request g)'s tidied take. Which records a track keeps, and in which order, is the original's own answer.
+pub fn tidied(take: &VmdParsedAnimation) -> VmdParsedAnimation {
+    VmdParsedAnimation {
+        bone_frames: tidied_records(&take.bone_frames, |record| &record.bone_name_bytes, |record| record.frame),
+        morph_frames: tidied_records(&take.morph_frames, |record| &record.morph_name_bytes, |record| record.frame),
+        camera_frames: tidied_records(&take.camera_frames, |_| &[], |record| record.frame),
+        light_frames: tidied_records(&take.light_frames, |_| &[], |record| record.frame),
+        self_shadow_frames: tidied_records(&take.self_shadow_frames, |_| &[], |record| record.frame),
+        property_frames: tidied_records(&take.property_frames, |_| &[], |record| record.frame),
+        ..take.clone()
+    }
+}
+
+fn tidied_records<T: Clone>(records: &[T], name: impl Fn(&T) -> &[u8], frame: impl Fn(&T) -> u32) -> Vec<T> {
+    let kept = tracks(records, name).into_iter().flat_map(|track| last_keys_per_frame(track, &frame));
+    kept.cloned().collect()
+}
+
+/// "Bone and morph tracks are the records of one name, laid one after another in order of first appearance".
+pub fn tracks<T>(records: &[T], name: impl Fn(&T) -> &[u8]) -> Vec<Vec<&T>> {
+    let (mut numbers, mut tracks) = (HashMap::new(), Vec::new());
+    for record in records {
+        let number = *numbers.entry(name(record)).or_insert(tracks.len());
+        if number == tracks.len() {
+            tracks.push(Vec::new());
+        }
+        tracks[number].push(record);
+    }
+    tracks
+}
+
+/// As the original calls it: for the keys of one track, in file order.
+fn last_keys_per_frame<'a, T>(track: Vec<&'a T>, frame: impl Fn(&T) -> u32) -> Vec<&'a T> {
+    VmdPoseExport::last_vmd_keys_per_frame(track, |key| frame(key))
 }
 
 /// Bytes that are to be written into an output of this many bytes.

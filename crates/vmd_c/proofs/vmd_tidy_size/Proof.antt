@@ -1,0 +1,24 @@
+use Rattle.vmd_c.specs.Meaning.{status, slot-after, count-words}
+use Rattle.vmd_c.proofs.Laws.{handed}
+use mathlib.Core.Path.{_∙_, ap}
+use borrow.Author.Needs.{needs}
+use Rattle.vmd_c.proofs.vmd_tidy_size.Statement.{statement}
+use Rattle.vmd_c.proofs.vmd_tidy_size.Tie as tie
+
+tidy-vmd-size-requires : tie.Need-tidy-vmd-size-requires
+tidy-vmd-size-requires c κs = search needs
+
+report-tidied-requires : tie.Need-report-tidied-requires
+report-tidied-requires c κs = search needs
+
+same-length : tie.Need-same-length
+same-length c = search needs
+
+returns : tie.Need-returns
+returns c = let r = c .report-tidied .ensures in
+    let a = c .before .before .before .before .before .before .tidy-vmd-size .ensures in
+    (r .0 ∙ ap status (a .0), r .1 ∙ ap (slot-after _ (λ t. t .bytes)) (a .0), r .2 ∙ ap (slot-after _ (λ t. count-words (t .kept))) (a .0), r .3 ∙ ap (slot-after _ (λ t. count-words (t .dropped))) (a .0), a .1)
+
+pub vmd-tidy-size-spec : {M : Type 1} → statement M
+vmd-tidy-size-spec =
+    tie.close (tie.spec tidy-vmd-size-requires report-tidied-requires same-length returns)

@@ -1,0 +1,8 @@
+pub mod Keys
+pub mod LastsLaws
+pub mod Resorted
+pub mod WindowLaws
+pub mod HeldLaws
+pub mod Places
+pub mod Totals
+pub mod Passes

@@ -1,0 +1,7 @@
+pub mod Order
+pub mod OrderLaws
+pub mod Walk
+pub mod Keep
+pub mod KeepLaws
+pub mod Arranged
+pub mod SortLaws

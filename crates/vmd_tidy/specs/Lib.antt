@@ -1,0 +1,7 @@
+pub mod Tidied
+pub mod TidyLaws
+pub mod Stages
+pub mod StageLaws
+pub mod Meaning
+pub mod Tidying
+pub mod Examples

@@ -1,0 +1,128 @@
+-- Laws of tidied takes, for every way of cutting names.
+use Prim.Native.Nat.{ℕ, _+_, _≤_, _<_, _^_}
+use mathlib.Core.Path.{_≡_}
+use mathlib.Core.List.{List, [], _∷_}
+use native.Mathlib.Omega.{arith}
+use lib.ListN.{length}
+use Rattle.vmd_format.specs.ReadLaws.{All}
+use Rattle.vmd_format.specs.Records.{Property}
+use Rattle.vmd_format.specs.Take.{Take, write-take}
+use Rattle.vmd_format.specs.TakeLaws.{WellFormed}
+use Rattle.vmd_format.specs.Opening.{ik-total}
+use Rattle.vmd_format.specs.Join.{join}
+use Rattle.vmd_format.specs.JoinLaws.{Fit}
+use Rattle.vmd_format.specs.Lengths.{export-length}
+use Rattle.vmd_tracks.specs.Tracks.{put, put-all, lasts, tidy-section, one-track}
+use Rattle.vmd_tracks.specs.TrackLaws.{Order, before, level, after, order, put-lt, put-eq, put-gt, tidy-section-twice, tidy-section-join, all-tidy, tidy-one}
+use Rattle.vmd_tracks.specs.DroppedLaws.{kept-and-dropped}
+use Rattle.vmd_tidy.specs.Tidied.{tidy-by, tidy, Counts, counts-of, dropped-by, tidied-file}
+
+module _ (cut : List ℕ → List ℕ) where
+  -- LAW: tidying twice is tidying once
+  pub tidy-twice : (t : Take) → tidy-by cut (tidy-by cut t) ≡ tidy-by cut t
+  unfolding tidy-by
+  tidy-twice t = simp (tidy-section-twice)
+
+  -- LAW: tidying a join is tidying the join of the two tidied takes
+  pub tidy-join : (t u : Take) → tidy-by cut (join (tidy-by cut t) (tidy-by cut u)) ≡ tidy-by cut (join t u)
+  unfolding tidy-by join
+  tidy-join t u = simp (tidy-section-join)
+
+  section-tidy : {A : Type 0} (key : A → List ℕ) (frame : A → ℕ) (G : A → Type 0) (l : List A)
+      → (length l < 2 ^ 32) × All G l → (length (tidy-section key frame l) < 2 ^ 32) × All G (tidy-section key frame l)
+  section-tidy key frame G l h = (omega (arith, kept-and-dropped key frame l), all-tidy key frame G l (h .1))
+
+  pub tidy-well-formed : {t : Take} → WellFormed t → WellFormed (tidy-by cut t)
+  unfolding tidy-by
+  tidy-well-formed {t} w = record {
+    model = w .model;
+    bones = section-tidy _ _ _ (t .bones) (w .bones);
+    morphs = section-tidy _ _ _ (t .morphs) (w .morphs);
+    cameras = section-tidy _ _ _ (t .cameras) (w .cameras);
+    lights = section-tidy _ _ _ (t .lights) (w .lights);
+    self-shadows = section-tidy _ _ _ (t .self-shadows) (w .self-shadows);
+    properties = section-tidy _ _ _ (t .properties) (w .properties);
+  }
+
+  pub tidy-fit : {t u : Take} → Fit t u → Fit (tidy-by cut t) (tidy-by cut u)
+  unfolding tidy-by
+  tidy-fit {t} {u} f = record {
+    bones = shorter _ _ (t .bones) (u .bones) (f .bones);
+    morphs = shorter _ _ (t .morphs) (u .morphs) (f .morphs);
+    cameras = shorter _ _ (t .cameras) (u .cameras) (f .cameras);
+    lights = shorter _ _ (t .lights) (u .lights) (f .lights);
+    self-shadows = shorter _ _ (t .self-shadows) (u .self-shadows) (f .self-shadows);
+    properties = shorter _ _ (t .properties) (u .properties) (f .properties);
+  }
+    where
+      shorter : {A : Type 0} (key : A → List ℕ) (frame : A → ℕ) (l m : List A) → length l + length m ≤ 4294967295
+          → length (tidy-section key frame l) + length (tidy-section key frame m) ≤ 4294967295
+      shorter key frame l m h = omega (arith, kept-and-dropped key frame l, kept-and-dropped key frame m)
+
+  -- LAW: "kept and dropped together make up the records read"
+  pub record Together (t : Take) (k d : Counts) : Type 0 where
+    pub bones : k .bones + d .bones ≡ length (t .bones)
+    pub morphs : k .morphs + d .morphs ≡ length (t .morphs)
+    pub cameras : k .cameras + d .cameras ≡ length (t .cameras)
+    pub lights : k .lights + d .lights ≡ length (t .lights)
+    pub self-shadows : k .self-shadows + d .self-shadows ≡ length (t .self-shadows)
+    pub properties : k .properties + d .properties ≡ length (t .properties)
+
+  pub tidy-together : (t : Take) → Together t (counts-of (tidy-by cut t)) (dropped-by cut t)
+  unfolding tidy-by counts-of dropped-by
+  tidy-together t = record {
+    bones = kept-and-dropped _ _ (t .bones);
+    morphs = kept-and-dropped _ _ (t .morphs);
+    cameras = kept-and-dropped _ _ (t .cameras);
+    lights = kept-and-dropped _ _ (t .lights);
+    self-shadows = kept-and-dropped _ _ (t .self-shadows);
+    properties = kept-and-dropped _ _ (t .properties);
+  }
+
+-- ---- a tidied file is never longer than the export
+
+module _ (frame : Property → ℕ) where
+  put-states : (a : Property) (l : List Property) → ik-total (put frame a l) ≤ ik-total (a ∷ l)
+  put-states a [] = unfold put in omega arith
+  put-states a (b ∷ l) = go (order frame a b) (put-states a l)
+    where
+      go : Order frame a b → ik-total (put frame a l) ≤ ik-total (a ∷ l) → ik-total (put frame a (b ∷ l)) ≤ ik-total (a ∷ b ∷ l)
+      go (before q) k = rw (put-lt frame a b l q) (omega arith)
+      go (level q) k = rw (put-eq frame a b l q) (unfold ik-total in omega arith)
+      go (after q) k = rw (put-gt frame a b l q) (less k)
+        where
+          less : ik-total (put frame a l) ≤ ik-total (a ∷ l) → ik-total (b ∷ put frame a l) ≤ ik-total (a ∷ b ∷ l)
+          less k = unfold ik-total in omega arith
+
+  put-all-states : (s l : List Property) → ik-total (put-all frame s l) ≤ ik-total s + ik-total l
+  unfolding put-all
+  put-all-states s [] = unfold ik-total in omega arith
+  put-all-states s (a ∷ l) = more (put-all-states (put frame a s) l) (put-states a s)
+    where
+      more : ik-total (put-all frame (put frame a s) l) ≤ ik-total (put frame a s) + ik-total l → ik-total (put frame a s) ≤ ik-total (a ∷ s)
+          → ik-total (put-all frame (put frame a s) l) ≤ ik-total s + ik-total (a ∷ l)
+      more x y = unfold ik-total in omega arith
+
+  pub lasts-states : (l : List Property) → ik-total (lasts frame l) ≤ ik-total l
+  unfolding lasts
+  lasts-states l = unfold ik-total in omega (arith, put-all-states [] l)
+
+-- LAW: an output of the export's length can hold the tidied file
+pub never-longer : (t : Take) → length (tidied-file t) ≤ length (write-take t)
+unfolding tidied-file tidy tidy-by
+never-longer t =
+    let states : ik-total (tidy-section one-track (λ p. p .frame) (t .properties)) ≤ ik-total (t .properties) =
+    rw (tidy-one (λ p. p .frame) (t .properties)) (lasts-states (λ p. p .frame) (t .properties)) in
+    let names = kept-and-dropped (λ b. b .name) (λ b. b .frame) (t .bones) in
+    omega (
+      arith,
+      states,
+      names,
+      export-length t,
+      export-length (tidy t),
+      kept-and-dropped (λ m. m .name) (λ m. m .frame) (t .morphs),
+      kept-and-dropped one-track (λ c. c .frame) (t .cameras),
+      kept-and-dropped one-track (λ l. l .frame) (t .lights),
+      kept-and-dropped one-track (λ s. s .frame) (t .self-shadows),
+      kept-and-dropped one-track (λ p. p .frame) (t .properties),
+    )

@@ -1,0 +1,6 @@
+pub mod Tracks
+pub mod TrackLaws
+pub mod DroppedLaws
+pub mod Ranked
+pub mod RankedLaws
+pub mod MapLaws

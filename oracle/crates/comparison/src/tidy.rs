@@ -1,0 +1,195 @@
+//! A file tidied. Expected are the records that the original's `last_vmd_keys_per_frame` keeps of each track of its reading, as
+//! its exporter writes them.
+
+use crate::check::{same, Checked, SLOT};
+use crate::lent::{Input, Output, Scratch};
+use crate::library::{self, Figures};
+use oracle::original::{self, VmdParsedAnimation, OUTPUT_TOO_SHORT, SCRATCH_TOO_SHORT};
+
+#[derive(Default)]
+pub struct TidyCheck {
+    input: Input,
+    scratch: Scratch,
+    output: Output,
+    turn: usize,
+    pub tally: TidyTally,
+}
+
+/// Takes whose tidied file was compared: all, those of which records were dropped, and those that were put in another order.
+#[derive(Default)]
+pub struct TidyTally {
+    pub takes: u64,
+    pub dropped_from: u64,
+    pub reordered: u64,
+    /// Bone and morph tracks, and those of the other sections.
+    pub tracks: u64,
+    pub kept: u64,
+    pub dropped: u64,
+}
+
+/// What tidying has to give.
+struct Tidied {
+    bytes: Vec<u8>,
+    figures: Figures,
+    /// Records of the largest section.
+    places: usize,
+    exported_len: usize,
+}
+
+const UNSET: Figures = Figures { kept: [SLOT as u32; 6], dropped: [SLOT as u32 + 1; 6] };
+
+/// Places of the scratch and bytes of the output.
+#[derive(Clone, Copy, Debug)]
+struct Lengths {
+    places: usize,
+    out: usize,
+}
+
+impl TidyCheck {
+    /// Every trial; of a long file three. The original's answer, 0 or its refusal; or a difference.
+    pub fn check_file(&mut self, file: &[u8]) -> Result<u32, String> {
+        let mut input = std::mem::take(&mut self.input);
+        let checked = self.check_held(input.hold(file));
+        self.input = input;
+        checked
+    }
+
+    fn check_held(&mut self, file: &[u8]) -> Result<u32, String> {
+        let take = original::read(file);
+        let exported = take.as_ref().map(original::export).map_err(|&refusal| refusal);
+        let tidied = self.tidied(&take, &exported)?;
+        for trial in (0..TRIALS).filter(|trial| file.len() < LONG || LONG_TRIALS.contains(trial)) {
+            self.check_trial(file, &tidied, trial)?;
+        }
+        Ok(take.err().unwrap_or(0))
+    }
+
+    /// One trial, another one for each file.
+    pub fn check(&mut self, file: &[u8], take: &Result<VmdParsedAnimation, u32>, exported: &Result<Vec<u8>, u32>) -> Checked {
+        let tidied = self.tidied(take, exported)?;
+        self.turn += 1;
+        self.check_trial(file, &tidied, self.turn % TRIALS)
+    }
+
+    fn tidied(
+        &mut self,
+        take: &Result<VmdParsedAnimation, u32>,
+        exported: &Result<Vec<u8>, u32>,
+    ) -> Result<Result<Tidied, u32>, String> {
+        let (take, exported) = match (take, exported) {
+            (Ok(take), Ok(exported)) => (take, exported),
+            (Err(refusal), _) | (_, Err(refusal)) => return Ok(Err(*refusal)),
+        };
+        let tidied = original::tidied(take);
+        let (read, kept) = (original::counts_of(take), original::counts_of(&tidied));
+        let dropped = std::array::from_fn(|i| (read[i] - kept[i]) as u32);
+        let figures = Figures { kept: kept.map(|count| count as u32), dropped };
+        let bytes = original::export(&tidied);
+        check_read_back(&bytes, &tidied)?;
+        self.tally.add(take, &figures, &bytes, exported);
+        Ok(Ok(Tidied { bytes, figures, places: *read.iter().max().unwrap(), exported_len: exported.len() }))
+    }
+
+    fn check_trial(&mut self, file: &[u8], tidied: &Result<Tidied, u32>, trial: usize) -> Checked {
+        let lengths = match tidied {
+            Err(_) => Lengths { places: [0, 3][trial % 2], out: [0, 90][trial / 2 % 2] },
+            Ok(tidied) => lengths_of(tidied, trial),
+        };
+        if trial < SIZE_TRIALS {
+            self.check_size(file, lengths.places, tidied)
+        } else {
+            self.check_written(file, lengths, tidied)
+        }
+    }
+
+    fn check_size(&mut self, file: &[u8], places: usize, tidied: &Result<Tidied, u32>) -> Checked {
+        let (mut size, mut figures) = (SLOT, UNSET);
+        let answer = library::tidy_size(file, self.scratch.lend(places), &mut size, &mut figures);
+        let expected = expected_of(tidied, Lengths { places, out: usize::MAX });
+        let shown = |part: &str| format!("tidied size with {places} places: {part}");
+        same(&shown("answer"), answer, expected.err().unwrap_or(0))?;
+        same(&shown("size"), size, expected.map_or(SLOT, |tidied| tidied.bytes.len() as u64))?;
+        self.check_left(figures, expected).map_err(|difference| shown(&difference))
+    }
+
+    fn check_written(&mut self, file: &[u8], lengths: Lengths, tidied: &Result<Tidied, u32>) -> Checked {
+        let (mut written, mut figures) = (SLOT, UNSET);
+        let (scratch, out) = (self.scratch.lend(lengths.places), self.output.lend(lengths.out));
+        let answer = library::tidy_animation(file, scratch, out, &mut written, &mut figures);
+        let expected = expected_of(tidied, lengths);
+        let shown = |part: &str| format!("tidied with {lengths:?}: {part}");
+        same(&shown("answer"), answer, expected.err().unwrap_or(0))?;
+        same(&shown("length written"), written, expected.map_or(SLOT, |tidied| tidied.bytes.len() as u64))?;
+        self.output.holds(expected.map_or(&[], |tidied| &tidied.bytes)).map_err(|difference| shown(&difference))?;
+        self.check_left(figures, expected).map_err(|difference| shown(&difference))
+    }
+
+    /// The two numbers for each section, and zeros in the scratch; all as it was after a refusal.
+    fn check_left(&self, figures: Figures, expected: Result<&Tidied, u32>) -> Checked {
+        same("kept and dropped", &figures, expected.map_or(&UNSET, |tidied| &tidied.figures))?;
+        self.scratch.holds(&vec![0; expected.map_or(0, |tidied| tidied.places)])
+    }
+}
+
+/// Refusals 3 and 13 by request g).
+fn expected_of(tidied: &Result<Tidied, u32>, lengths: Lengths) -> Result<&Tidied, u32> {
+    match tidied {
+        Err(refusal) => Err(*refusal),
+        Ok(tidied) if lengths.places < tidied.places => Err(SCRATCH_TOO_SHORT),
+        Ok(tidied) if lengths.out < tidied.bytes.len() => Err(OUTPUT_TOO_SHORT),
+        Ok(tidied) => Ok(tidied),
+    }
+}
+
+const TRIALS: usize = 12;
+
+/// The first of them ask for the size alone.
+const SIZE_TRIALS: usize = 3;
+
+/// Bytes of a file that takes its time, and what is tried with it: the size, the exact output, and one byte less, for which the
+/// kept records have to be counted.
+const LONG: usize = 100_000;
+const LONG_TRIALS: [usize; 3] = [0, 3, 5];
+
+fn lengths_of(tidied: &Tidied, trial: usize) -> Lengths {
+    let (places, len, exported) = (tidied.places, tidied.bytes.len(), tidied.exported_len);
+    let fewer = places.saturating_sub(1);
+    let (places, out) = match trial {
+        0 => (places, 0),
+        1 => (places + 3, 0),
+        2 => (fewer, 0),
+        3 => (places, len),
+        4 => (places + 3, len - 1),
+        5 => (places, len - 1),
+        6 => (places + 3, len + 1),
+        7 => (places, exported),
+        8 => (places + 1, exported + 29),
+        9 => (places, 0),
+        10 => (fewer, len),
+        _ => (fewer, 0),
+    };
+    Lengths { places, out }
+}
+
+/// The original reads the file to which the library's is held: it has the records that were kept, and would keep all of them.
+fn check_read_back(bytes: &[u8], tidied: &VmdParsedAnimation) -> Checked {
+    let read = original::read(bytes).map_err(|refusal| format!("the original refuses the tidied file with {refusal}"))?;
+    same("records of the tidied file", original::counts_of(&read), original::counts_of(tidied))?;
+    same("the tidied file, tidied by the original", &original::export(&original::tidied(&read))[..], bytes)
+}
+
+impl TidyTally {
+    fn add(&mut self, take: &VmdParsedAnimation, figures: &Figures, bytes: &[u8], exported: &[u8]) {
+        let sum = |numbers: &[u32; 6]| numbers.iter().map(|&number| number as u64).sum::<u64>();
+        let bones = original::tracks(&take.bone_frames, |record| &record.bone_name_bytes).len();
+        let morphs = original::tracks(&take.morph_frames, |record| &record.morph_name_bytes).len();
+        let others = original::counts_of(take)[2..].iter().filter(|&&count| count > 0).count();
+        let dropped = sum(&figures.dropped);
+        self.takes += 1;
+        self.dropped_from += (dropped > 0) as u64;
+        self.reordered += (dropped == 0 && bytes != exported) as u64;
+        self.tracks += (bones + morphs + others) as u64;
+        self.kept += sum(&figures.kept);
+        self.dropped += dropped;
+    }
+}
