@@ -3,6 +3,5 @@ pub mod LastsLaws
 pub mod Resorted
 pub mod WindowLaws
 pub mod HeldLaws
-pub mod Places
 pub mod Totals
 pub mod Passes

@@ -16,7 +16,7 @@ use Rattle.vmd_tracks.specs.TrackLaws.{select-all, lasts-some}
 use Rattle.vmd_sort.specs.Walk.{step, places-by, end-by, states-there, total}
 use Rattle.vmd_kept.specs.Window.{above, between, Holds}
 use Rattle.vmd_kept.proofs.LastsLaws.{select-lasts, lasts-short}
-use Rattle.vmd_kept.proofs.Places.{places-snoc, end-snoc, places-length, end-within, step-more}
+use Rattle.vmd_sort.specs.WalkLaws.{places-snoc, end-snoc, places-count, end-within, step-past}
 use Rattle.vmd_kept.proofs.Totals.{one, total-one, total-split, total-most, states-small}
 use Rattle.vmd_kept.proofs.WindowLaws.{between-same}
 use Rattle.vmd_kept.proofs.HeldLaws.{holds-start, holds-wider}
@@ -26,8 +26,8 @@ module _ (s : List ℕ) (size at : ℕ) where
   pub pass-within : (n i p : ℕ) → end-by (step s size) n at ≤ length s → i < n → p ≡ end-by (step s size) i at
       → (p < length s) × (step s size p ≤ length s)
   pass-within n i p h k e =
-      let x = end-within (step s size) (step-more s size) i n at k in
-      let y = step-more s size p in
+      let x = end-within (step s size) (step-past s size) i n at k in
+      let y = step-past s size p in
       let z = ap (step s size) e in
       (omega arith, omega arith)
 
@@ -40,7 +40,7 @@ module _ (s : List ℕ) (size at : ℕ) where
         → Holds f floor ceil (p + 1) u (places-by (step s size) i at ++ p ∷ [])
         → (q ≡ end-by (step s size) (i + 1) at) × Holds f floor ceil q u (places-by (step s size) (i + 1) at)
     pass-turn {floor} {ceil} {u} i p q e d w =
-        let h = step-more s size p in (
+        let h = step-past s size p in (
           d ∙ ap (step s size) e ∙ sym (end-snoc (step s size) i at),
           subst (Holds f floor ceil q u) (ap {B = List ℕ} (λ x. places-by (step s size) i at ++ x ∷ []) e ∙ sym (places-snoc (step s size) i at))
               (holds-wider f (omega arith) w),
@@ -137,6 +137,6 @@ pub kept-few : (f : ℕ → ℕ) (s : List ℕ) (size n at : ℕ) → Bytes s
 kept-few f s size n at b =
     let l = lasts f (places-by (step s size) n at) in
     let x = lasts-short f (places-by (step s size) n at) in
-    let y = places-length (step s size) n at in
+    let y = places-count (step s size) n at in
     let z = total-most (states-there s) 4294967295 (states-small s b) l in
     (omega arith, omega arith)

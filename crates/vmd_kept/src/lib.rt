@@ -28,18 +28,6 @@ const PLACES: usize = 32768;
 // What stays when the places are full.
 const KEPT: usize = 16384;
 
-// The place after a record of one size, or, for size 0, after a property frame.
-fn next_place(s: &[u8], p: usize, size: usize) -> usize
-    requires { ⌜ step (now s) size p ≤ length (now s) ⌝ }
-    ensures { λ r. ⌜ r ≡ step (now (s .entry)) size p ⌝ }
-{
-    if size == 0 {
-        let states = vmd_bytes::read_u32_le(s, p + 5);
-        return p + 9 + 21 * states as usize;
-    }
-    p + size
-}
-
 // Whether the key of x is below that of y.
 fn key_before(s: &[u8], order: VmdOrder, x: u64, y: u64) -> bool
     ensures { λ r. ⌜ r ≡ ltb (key order (now (s .entry)) x) (key order (now (s .entry)) y) ⌝ }
@@ -136,7 +124,7 @@ fn pass(
         let held = offer(a, s, order, floor, p as u64, m, ceil);
         m = held.m;
         ceil = held.ceil;
-        p = next_place(s, p, size);
+        p = vmd_sort::next_place(s, p, size);
         i += 1;
     }
     Held { m, ceil }

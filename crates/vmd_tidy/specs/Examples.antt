@@ -1,16 +1,16 @@
 -- A take tidied, computed from its bytes: another number in every record, and the refusals at their limits.
 use Prim.Native.Nat.{ℕ}
 use mathlib.Core.Path.{_≡_, refl}
-use mathlib.Core.Bool.{Bool, true, false}
+use mathlib.Core.Bool.{Bool, not, _&&_}
 use mathlib.Core.List.{List, [], _∷_, _++_}
-use lib.ListN.{length, replicate}
+use lib.ListN.{replicate}
 use lib.Dec.{T}
-use Rattle.vmd_format.specs.Answer.{Answer, given, map-answer}
+use Rattle.vmd_format.specs.Answer.{given, map-answer}
 use Rattle.vmd_format.specs.Read.{lenient}
 use Rattle.vmd_format.specs.Computed.{computed, declines, bytes-of, text, older-text, fours, u0, camera-bytes, light-bytes, shadow-bytes, ik-bytes}
 use Rattle.vmd_keys.specs.Names.{keep-if, select, distinct}
 use Rattle.vmd_tracks.specs.Tracks.{put-if, put, put-all, lasts, track, lay, tidy-section, one-track, any, same-slot, dropped}
-use Rattle.vmd_tidy.specs.Tidied.{tidy-by, tidy, counts-of, dropped-by, largest-section, tidied-file, fitting, tidying, report, tidied-answer, tidied-output, cleared, tidied-scratch, size-answer}
+use Rattle.vmd_tidy.specs.Tidied.{tidy-by, tidy, counts-of, dropped-by, largest-section, tidied-file, fitting, tidying, report, cleared}
 
 -- unfolding this and `computed` unfolds the definitions of tidying
 unfoldable tidy-computed : Unit {0}
@@ -84,6 +84,21 @@ pub refusals-told :
     × T (declines (tidying lenient (text ++ replicate 24 0) 0 0) 1) × T (declines (tidying lenient (replicate 60 0) 0 0) 2)
 unfolding computed tidy-computed
 refusals-told = (tt, tt, tt, tt, tt)
+
+-- each section counts for the scratch: one record alone needs a place, two of them two
+abbrev alone : List ℕ → List ℕ → Bool
+alone front one =
+    let file = text ++ replicate 24 0 ++ front in
+    declines (tidying lenient (file ++ fours (1 ∷ []) ++ one) 0 400) 3
+    && declines (tidying lenient (file ++ fours (2 ∷ []) ++ one ++ one) 1 400) 3
+    && not (declines (tidying lenient (file ++ fours (2 ∷ []) ++ one ++ one) 2 400) 3)
+
+pub largest-told :
+    T (alone [] (bone-of 65 0 1 2)) × T (alone u0 (morph-of 65 0 1 2)) × T (alone (u0 ++ u0) (camera-bytes 1 0))
+    × T (alone (u0 ++ u0 ++ u0) (light-bytes 1)) × T (alone (u0 ++ u0 ++ u0 ++ u0) (shadow-bytes 1 0))
+    × T (alone (u0 ++ u0 ++ u0 ++ u0 ++ u0) (fours (1 ∷ []) ++ (1 ∷ []) ++ u0))
+unfolding computed tidy-computed
+largest-told = (tt, tt, tt, tt, tt, tt)
 
 -- a take without records needs no scratch
 pub empty-told : bytes-of (map-answer tidied-file (tidying lenient (text ++ replicate 28 0) 0 74)) ≡ text ++ replicate 48 0

@@ -1,6 +1,6 @@
 -- Laws of a scanned take that is tidied section by section.
-use Prim.Native.Nat.{ℕ, zero, suc, _+_, _-_, _*_, _≤_, _<_, max}
-use mathlib.Core.Path.{_≡_, refl, ap, ap₂, sym, _∙_}
+use Prim.Native.Nat.{ℕ, zero, suc, _+_, _-_, _≤_, _<_}
+use mathlib.Core.Path.{_≡_, refl, ap, sym, _∙_}
 use mathlib.Core.Bool.{Bool, true, false}
 use mathlib.Core.List.{List, _++_, append-assoc}
 use native.Mathlib.Nat.{zero-add}
@@ -10,7 +10,7 @@ use lib.Dec.{leb}
 use lib.ListN.{length, drop, replicate}
 use lib.Seq.{drop-drop}
 use Rattle.vmd_format.specs.Refusal.{Refusal, scratch-too-short, output-too-short}
-use Rattle.vmd_format.specs.Answer.{Answer, declined, given, map-answer, and-then, unless, within, left}
+use Rattle.vmd_format.specs.Answer.{declined, given, map-answer, and-then, unless, within, left}
 use Rattle.vmd_format.specs.Read.{Manner, fixed, write-counted}
 use Rattle.vmd_format.specs.Records.{bone, morph, camera, light, self-shadow}
 use Rattle.vmd_format.specs.Fetch.{next-frame, model-of}
@@ -29,10 +29,10 @@ use Rattle.vmd_bytes.proofs.Writes.{rest-as}
 use Rattle.vmd_records.specs.declared.VmdKind.the-variants as kind
 use Rattle.vmd_tables.specs.Leading.{Beyond}
 use Rattle.vmd_sort.specs.Walk.{step, end-by}
-use Rattle.vmd_tidy_sections.specs.WalkLaws.{step-frame}
+use Rattle.vmd_sort.specs.WalkLaws.{step-frame}
 use Rattle.vmd_tidy_sections.specs.Sections.{tidied-rows, tidied-frames}
 use Rattle.vmd_tidy.specs.Tidied.{tidy, tidy-by, Counts, counts-of, dropped-by, whole-name, largest-section, tidied-file, fitting, tidying, Report, report, cleared}
-use Rattle.vmd_tidy.specs.TidyLaws.{never-longer, Together, tidy-together}
+use Rattle.vmd_tidy.specs.TidyLaws.{never-longer, tidy-together}
 use Rattle.vmd_tidy.specs.Stages.{is-given, size-given, largest-count, tidied-at, counts-at, front-bytes, back-bytes, Front, Back, Fewer, Whole}
 
 -- ---- the take

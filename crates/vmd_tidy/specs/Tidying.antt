@@ -1,13 +1,13 @@
 -- The laws of tidying (02 g), of what the call answers and leaves in output and scratch, in every manner of reading.
 use Prim.Native.Nat.{ℕ, _+_, _≤_}
-use mathlib.Core.Path.{_≡_, refl, ap, sym, _∙_}
+use mathlib.Core.Path.{_≡_, ap, sym, _∙_}
 use mathlib.Core.List.{List, [], _∷_, _++_}
 use borrow.Author.Tests.{le-leb}
 use native.Mathlib.Omega.{arith}
 use lib.ListN.{length, drop}
 use lib.Seq.{take-append-seam}
 use Rattle.vmd_format.specs.Refusal.{scratch-too-short, output-too-short}
-use Rattle.vmd_format.specs.Answer.{Answer, declined, given, and-then, map-answer, left, file-left}
+use Rattle.vmd_format.specs.Answer.{Answer, given, and-then, map-answer, left, file-left}
 use Rattle.vmd_format.specs.Read.{Manner}
 use Rattle.vmd_format.specs.Take.{Take, older, edition, read-take, write-take}
 use Rattle.vmd_format.specs.TakeLaws.{take-back}
@@ -18,7 +18,7 @@ use Rattle.vmd_format.specs.EditionLaws.{widened, take-widened}
 use Rattle.vmd_format.specs.RefusalLaws.{here, there, reading-numbers, Refuses, among-back, reading-refuses, refuses-more, refuses-then, refuses-unless}
 use Rattle.vmd_export.specs.Demand3.{joined, joined-is}
 use Rattle.vmd_export.specs.Demand3 as saving
-use Rattle.vmd_tidy.specs.Tidied.{tidy, whole-name, largest-section, tidied-file, fitting, tidying, Report, report, counts-of, dropped-by, tidied-answer, tidied-output, tidied-scratch, size-answer, size-scratch, cleared, longest}
+use Rattle.vmd_tidy.specs.Tidied.{tidy, whole-name, largest-section, tidied-file, fitting, tidying, report, tidied-answer, tidied-output, tidied-scratch, cleared}
 use Rattle.vmd_tidy.specs.TidyLaws.{tidy-twice, tidy-join, tidy-well-formed, tidy-fit, Together, tidy-together, never-longer}
 use Rattle.vmd_tidy.specs.StageLaws.{fitting-given}
 

@@ -1,7 +1,7 @@
 -- Laws of counting: what is counted without the scratch is what tidying keeps.
 use Prim.Native.Nat.{ℕ, _+_, _*_, _≤_, _<_}
 use mathlib.Core.Path.{_≡_, refl, ap, ap₂, sym, _∙_}
-use mathlib.Core.Bool.{Bool, true, false, _&&_}
+use mathlib.Core.Bool.{false, _&&_}
 use mathlib.Core.List.{List, [], _∷_, map}
 use native.Mathlib.Decide.{ℕ-discrete}
 use native.Mathlib.Omega.{arith}
@@ -11,10 +11,10 @@ use lib.ListN.{length, drop, length-map}
 use Rattle.vmd_format.specs.Bytes.{u32}
 use Rattle.vmd_format.specs.BytesLaws.{Bytes}
 use Rattle.vmd_format.specs.ReadLaws.{All}
-use Rattle.vmd_format.specs.Records.{Property, ik-state}
+use Rattle.vmd_format.specs.Records.{ik-state}
 use Rattle.vmd_format.specs.Take.{same}
 use Rattle.vmd_format.specs.Opening.{Extent, ik-total}
-use Rattle.vmd_format.specs.PlacesLaws.{property-in, frames-in, table-length}
+use Rattle.vmd_format.specs.PlacesLaws.{property-in, table-length}
 use Rattle.vmd_keys.specs.Names.{name-in}
 use Rattle.vmd_keys.specs.Keys.{key-of, worth, top}
 use Rattle.vmd_keys.specs.KeyLaws.{pack-first, pack-second, worth-tells, name-good}
@@ -24,12 +24,12 @@ use Rattle.vmd_tracks.specs.TrackLaws.{all-map}
 use Rattle.vmd_tracks.specs.DroppedLaws.{kept-by-number, lasts-lost}
 use Rattle.vmd_records.specs.declared.VmdKind.{VmdKind}
 use Rattle.vmd_records.specs.Kinds.{layout}
-use Rattle.vmd_sort.specs.Order.{there, named, both}
+use Rattle.vmd_sort.specs.Order.{there, both}
 use Rattle.vmd_sort.specs.OrderLaws.{there-in, named-in, named-small}
 use Rattle.vmd_sort.specs.Walk.{step, places-by, end-by, states-there, total}
 use Rattle.vmd_tidy_sections.specs.Sections.{tidied-places, tidied-rows, tidied-frame-places, tidied-frames}
 use Rattle.vmd_tidy_sections.specs.SectionLaws.{rows-placed, frames-placed, frames-there, frames-kept, states-in}
-use Rattle.vmd_tidy_sections.specs.WalkLaws.{step-past, step-fixed, places-lie, places-count}
+use Rattle.vmd_sort.specs.WalkLaws.{step-past, step-fixed, places-lie, places-count}
 
 -- ---- names and frames told by one number
 

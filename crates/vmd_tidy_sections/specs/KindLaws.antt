@@ -1,5 +1,5 @@
 -- A record of a kind has bytes.
-use Prim.Native.Nat.{ℕ, _<_}
+use Prim.Native.Nat.{_<_}
 use native.Mathlib.Omega.{arith}
 use Rattle.vmd_records.specs.declared.VmdKind.{VmdKind}
 use Rattle.vmd_records.specs.declared.VmdKind.the-variants as kind

@@ -1,8 +1,7 @@
 -- Laws of places that hold records one after another, and of writing them.
-use Prim.Native.Nat.{ℕ, zero, suc, _+_, _-_, _*_, _≤_, _<_}
-use mathlib.Core.Path.{_≡_, refl, ap, sym, _∙_}
-use mathlib.Core.List.{List, [], _∷_, _++_, map}
-use native.Mathlib.Nat.{add-zero}
+use Prim.Native.Nat.{ℕ, zero, suc, _+_, _*_, _≤_, _<_}
+use mathlib.Core.Path.{_≡_, ap, sym, _∙_}
+use mathlib.Core.List.{List, _++_}
 use native.Mathlib.Numerals.{add-one}
 use native.Mathlib.Omega.{arith}
 use lib.ListN.{length, getD, take, drop, length-drop, take-append-drop}
@@ -11,13 +10,13 @@ use Rattle.vmd_format.specs.Layout.{Layout}
 use Rattle.vmd_format.specs.Read.{table, write-all}
 use Rattle.vmd_format.specs.Take.{property}
 use Rattle.vmd_format.specs.PlacesLaws.{property-in, frames-in}
-use Rattle.vmd_format.specs.SizedLaws.{Sized}
 use Rattle.vmd_bytes.specs.Written.{Room, Wrote, Rest}
 use Rattle.vmd_bytes.proofs.Writes.{rest-all, rest-room, rest-then, none-left}
 use Rattle.vmd_tables.specs.TableLaws.{write-append}
 use Rattle.vmd_sort.specs.Walk.{step, places-by, end-by}
 use Rattle.vmd_tidy_sections.specs.Sections.{placed}
-use Rattle.vmd_tidy_sections.specs.WalkLaws.{step-fixed, places-snoc, end-snoc, table-places, frames-places, write-map}
+use Rattle.vmd_sort.specs.WalkLaws.{step-fixed, places-snoc, end-snoc}
+use Rattle.vmd_tidy_sections.specs.WalkLaws.{table-places, frames-places, write-map}
 
 -- ---- a run
 

@@ -10,8 +10,8 @@ use lib.Seq.{drop-cons, drop-drop}
 use Rattle.vmd_format.specs.Bytes.{u32, u32-bytes}
 use Rattle.vmd_format.specs.Fetch.{next-frame}
 use Rattle.vmd_format.specs.Read.{fixed, write-all, write-counted}
-use Rattle.vmd_format.specs.Layout.{Layout, number, name, raw, byte, flag, inverted, _⊗_, as-record}
-use Rattle.vmd_format.specs.Records.{Property, bone, morph, camera, light, self-shadow, property-head}
+use Rattle.vmd_format.specs.Layout.{number, name, raw, byte, flag, inverted, _⊗_, as-record}
+use Rattle.vmd_format.specs.Records.{bone, morph, camera, light, self-shadow}
 use Rattle.vmd_format.specs.ReadLaws.{All}
 use Rattle.vmd_format.specs.Opening.{Extent}
 use Rattle.vmd_format.specs.PlacesLaws.{property-in, frames-in}
@@ -30,7 +30,8 @@ use Rattle.vmd_sort.specs.OrderLaws.{there-in}
 use Rattle.vmd_sort.specs.Walk.{step, places-by, end-by, states-there, total}
 use Rattle.vmd_tidy_sections.specs.Sections.{placed, track-of, frame-of, track-at, tidied-places, tidied-rows, tidied-frame-places, tidied-frames}
 use Rattle.vmd_tidy_sections.specs.KindLaws.{kind-some}
-use Rattle.vmd_tidy_sections.specs.WalkLaws.{step-past, step-frame, step-fixed, places-lie, write-map, table-places, frames-places}
+use Rattle.vmd_sort.specs.WalkLaws.{step-past, step-frame, step-fixed, places-lie}
+use Rattle.vmd_tidy_sections.specs.WalkLaws.{write-map, table-places, frames-places}
 
 -- ---- the fields of a record at a place
 

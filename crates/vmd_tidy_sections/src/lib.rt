@@ -30,17 +30,6 @@ ghost use Rattle.vmd_tidy_sections.specs.Sections.{placed, tidied-places
 
 // ---- where the records of a section stand
 
-// The place after a record of one size, or, for size 0, after a property frame.
-fn next_place(s: &[u8], p: usize, size: usize) -> usize
-    requires { ⌜ step (now s) size p ≤ length (now s) ⌝ }
-    ensures { λ r. ⌜ r ≡ step (now (s .entry)) size p ⌝ }
-{
-    if size == 0 {
-        return vmd_scan::next_property_frame(s, p);
-    }
-    p + size
-}
-
 // Has the places hold where the records from one on stand.
 fn fill_places(a: &mut [u64], s: &[u8], at: usize, size: usize)
     requires { ⌜ end-by (step (now s) size) (length (now a)) at ≤ length (now s) ⌝ }
@@ -50,7 +39,7 @@ fn fill_places(a: &mut [u64], s: &[u8], at: usize, size: usize)
     let mut i = 0;
     while i < a.len() {
         a[i] = p as u64;
-        p = next_place(s, p, size);
+        p = vmd_sort::next_place(s, p, size);
         i += 1;
     }
 }
@@ -72,13 +61,13 @@ fn run_length(places: &[u64], i: usize, s: &[u8], size: usize) -> usize
     requires { ⌜ (i < length (now places)) × All (λ p. step (now s) size p ≤ length (now s)) (now places) ⌝ }
     ensures { λ r. ⌜ (1 ≤ r) × (i + r ≤ length (now (places .entry))) × (take r (drop i (now (places .entry))) ≡ places-by (step (now (s .entry)) size) r (getD (now (places .entry)) i 0)) × (end-by (step (now (s .entry)) size) r (getD (now (places .entry)) i 0) ≤ length (now (s .entry))) ⌝ }
 {
-    let mut next = next_place(s, places[i] as usize, size);
+    let mut next = vmd_sort::next_place(s, places[i] as usize, size);
     let mut n = 1;
     while n < places.len() - i {
         if places[i + n] != next as u64 {
             return n;
         }
-        next = next_place(s, next, size);
+        next = vmd_sort::next_place(s, next, size);
         n += 1;
     }
     n

@@ -1,18 +1,18 @@
 -- Kept and dropped records make up the records read.
-use Prim.Native.Nat.{ℕ, zero, suc, _+_, _≤_, _<_}
-use mathlib.Core.Path.{_≡_, refl, ap, ap₂, sym, _∙_, subst}
+use Prim.Native.Nat.{ℕ, suc, _+_}
+use mathlib.Core.Path.{_≡_, refl, ap, sym, _∙_}
 use mathlib.Core.Bool.{Bool, true, false, not, _&&_, _||_}
-use mathlib.Core.List.{List, [], _∷_, _++_, map}
+use mathlib.Core.List.{List, [], _∷_, map}
 use native.Mathlib.Omega.{arith}
 use borrow.Author.Tests.{eqb-true, eqb-false, not-true}
 use lib.ListN.{length, length-append}
 use lib.Dec.{eqb}
-use Rattle.vmd_format.specs.ReadLaws.{All, all-append}
+use Rattle.vmd_format.specs.ReadLaws.{All}
 use Rattle.vmd_format.specs.Take.{same}
 use Rattle.vmd_keys.specs.Names.{keep-if, select, distinct}
 use Rattle.vmd_count.specs.DistinctLaws.{same-refl, Names, equal, apart, names, all-select, select-passed}
 use Rattle.vmd_tracks.specs.Tracks.{put, put-all, lasts, track, lay, tidy-section, any, same-slot, dropped}
-use Rattle.vmd_tracks.specs.TrackLaws.{same-sym, Test, passed, failed, test, all-map, select-none, select-weaker, put-over, put-comm, put-past, all-put-all, put-lt, put-eq, put-gt, Order, before, level, after, order}
+use Rattle.vmd_tracks.specs.TrackLaws.{same-sym, Test, passed, failed, test, all-map, select-none, select-weaker, put-over, put-comm, put-past, all-put-all, put-lt, put-gt, Order, before, level, after, order}
 
 module _ {A : Type 0} where
   any-none : (f : A → Bool) (l : List A) → any f l ≡ false → All (λ a. f a ≡ false) l

@@ -1,16 +1,14 @@
 -- Tidying goes only by keys and frames: the records may be replaced by their numbers.
-use Prim.Native.Nat.{ℕ, _+_, _<_}
-use mathlib.Core.Path.{_≡_, refl, ap, ap₂, sym, _∙_, subst}
+use Prim.Native.Nat.{ℕ, _+_}
+use mathlib.Core.Path.{_≡_, refl, ap, sym, _∙_}
 use mathlib.Core.Bool.{Bool, true, false}
-use mathlib.Core.List.{List, [], _∷_, _++_, map, map-append}
-use lib.ListN.{length}
+use mathlib.Core.List.{List, [], _∷_, map, map-append}
 use Rattle.vmd_format.specs.ReadLaws.{All}
 use Rattle.vmd_format.specs.Take.{same}
 use Rattle.vmd_keys.specs.Names.{keep-if, select, distinct}
-use Rattle.vmd_count.specs.DistinctLaws.{all-select, map-same}
+use Rattle.vmd_count.specs.DistinctLaws.{all-select}
 use Rattle.vmd_tracks.specs.Tracks.{lasts, track, lay, tidy-section}
 use Rattle.vmd_tracks.specs.RankedLaws.{lasts-map, lasts-shift, map-two}
-use Rattle.vmd_tracks.specs.TrackLaws.{all-map}
 
 module _ {A B : Type 0} (h : A → B) where
   select-map : (t : B → Bool) (l : List A) → select t (map h l) ≡ map h (select (λ a. t (h a)) l)

@@ -1,3 +1,4 @@
+-- `vmd_c::report_tidied` meets its contract. Assumes nothing.
 use Rattle.vmd_tidy.specs.Meaning.{tidy-answer}
 use Rattle.vmd_c.specs.Meaning.{count-words}
 use Rattle.vmd_c.proofs.Laws.{status-declined, status-given, slot-declined, slot-given}

@@ -1,7 +1,8 @@
+-- `vmd_tidy::counted_fit` meets its contract. Assumes nothing.
 use Rattle.vmd_tidy.specs.StageLaws.{scan-ends, within-given, count-fits}
 use Rattle.vmd_tidy.specs.Stages.{is-given, Front, Back}
 use Rattle.vmd_scan.specs.Meaning.{scan-is}
-use mathlib.Core.Path.{sym, ap, _∙_}
+use mathlib.Core.Path.{ap, _∙_}
 use borrow.Author.Needs.{needs}
 use Rattle.vmd_tidy.proofs.counted_fit.Statement.{statement}
 use Rattle.vmd_tidy.proofs.counted_fit.Tie as tie

@@ -1,5 +1,5 @@
+-- `vmd_tidy::dropped_from` meets its contract. Assumes nothing.
 use native.Mathlib.Omega.{arith}
-use borrow.Author.Needs.{needs}
 use Rattle.vmd_tidy.proofs.dropped_from.Statement.{statement}
 use Rattle.vmd_tidy.proofs.dropped_from.Tie as tie
 

@@ -1,10 +1,10 @@
+-- `vmd_tidy::keep_back` meets its contract. Assumes nothing.
 use Rattle.vmd_tidy.specs.StageLaws.{largest, beyond-wider, scan-ends}
 use Rattle.vmd_tidy.specs.Stages.{tidied-at}
 use Rattle.vmd_tables.proofs.Leaders.{beyond-then}
 use Rattle.vmd_scan.specs.Meaning.{scan-is}
 use mathlib.Core.Path.{_∙_}
 use native.Mathlib.Omega.{arith}
-use borrow.Author.Needs.{needs}
 use Rattle.vmd_tidy.proofs.keep_back.Statement.{statement}
 use Rattle.vmd_tidy.proofs.keep_back.Tie as tie
 

@@ -1,9 +1,9 @@
+-- `vmd_tidy::keep_front` meets its contract. Assumes nothing.
 use Rattle.vmd_tidy.specs.StageLaws.{largest, beyond-wider}
 use Rattle.vmd_tables.proofs.Leaders.{beyond-then}
 use Rattle.vmd_scan.specs.Meaning.{scan-is}
 use mathlib.Core.Path.{_∙_}
 use native.Mathlib.Omega.{arith}
-use borrow.Author.Needs.{needs}
 use Rattle.vmd_tidy.proofs.keep_front.Statement.{statement}
 use Rattle.vmd_tidy.proofs.keep_front.Tie as tie
 

@@ -1,3 +1,4 @@
+-- `vmd_tidy::largest_section` meets its contract. Assumes nothing.
 use Rattle.vmd_tidy.specs.Stages.{largest-count}
 use mathlib.Core.Path.{ap, _∙_}
 use Prim.Native.Nat.{ℕ, max}

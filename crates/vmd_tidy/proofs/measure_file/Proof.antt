@@ -1,10 +1,11 @@
+-- `vmd_tidy::measure_file` meets its contract. Assumes nothing.
 use Rattle.vmd_tidy.specs.StageLaws.{kept-fewer, counts-kept, count-sizes, size-within}
 use Rattle.vmd_tidy.specs.Stages.{Fewer, size-given, tidied-at}
 use Rattle.vmd_tidy.specs.Tidied.{longest}
 use Rattle.vmd_tables.proofs.Leaders.{beyond-then}
 use Rattle.vmd_scan.specs.Meaning.{scan-is}
 use Prim.Native.Nat.{_≤_}
-use mathlib.Core.Path.{_≡_, sym, ap, _∙_, subst}
+use mathlib.Core.Path.{sym, ap, _∙_, subst}
 use native.Mathlib.Omega.{arith}
 use borrow.Author.Needs.{needs}
 use Rattle.vmd_tidy.proofs.measure_file.Statement.{statement}

@@ -1,12 +1,12 @@
-use Rattle.vmd_tidy.specs.StageLaws.{largest-is, tidied-bytes, fitting-short, fitting-over, fitting-given, reported, cleared-is, wrote-left}
+-- `vmd_tidy::measure_scanned` meets its contract. Assumes nothing.
+use Rattle.vmd_tidy.specs.StageLaws.{largest-is, tidied-bytes, fitting-short, fitting-over, fitting-given, reported, cleared-is}
 use Rattle.vmd_tidy.specs.Tidied.{cleared, longest}
 use Rattle.vmd_scan.specs.Meaning.{scan-is}
 use Rattle.vmd_format.specs.ExportLaws.{take-in}
 use Rattle.vmd_format.specs.Answer.{map-answer, left, given}
 use borrow.Author.Tests.{not-true, not-false, leb-true}
 use lib.ListN.{length}
-use Prim.Native.Nat.{_≤_}
-use mathlib.Core.Path.{_≡_, refl, sym, ap, _∙_, subst}
+use mathlib.Core.Path.{refl, sym, ap, _∙_}
 use native.Mathlib.Omega.{arith}
 use borrow.Author.Needs.{needs}
 use Rattle.vmd_tidy.proofs.measure_scanned.Statement.{statement}

@@ -1,3 +1,4 @@
+-- `vmd_tidy::tidied_fits` meets its contract. Assumes nothing.
 use Rattle.vmd_tidy.specs.StageLaws.{within-given, export-fits}
 use Rattle.vmd_tidy.specs.Stages.{is-given}
 use Rattle.vmd_scan.specs.Meaning.{scan-is}

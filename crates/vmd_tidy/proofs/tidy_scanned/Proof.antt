@@ -1,3 +1,4 @@
+-- `vmd_tidy::tidy_scanned` meets its contract. Assumes nothing.
 use Rattle.vmd_tidy.specs.Stages.{tidied-at}
 use Rattle.vmd_format.specs.Take.{write-take}
 use Rattle.vmd_tidy.specs.StageLaws.{largest-is, tidied-bytes, fitting-short, fitting-over, fitting-given, reported, cleared-is, wrote-left}
@@ -8,7 +9,7 @@ use Rattle.vmd_format.specs.Answer.{map-answer, left, given}
 use borrow.Author.Tests.{not-true, not-false, leb-true}
 use lib.ListN.{length}
 use Prim.Native.Nat.{_≤_}
-use mathlib.Core.Path.{_≡_, refl, sym, ap, _∙_, subst}
+use mathlib.Core.Path.{refl, sym, ap, _∙_}
 use native.Mathlib.Omega.{arith}
 use borrow.Author.Needs.{needs}
 use Rattle.vmd_tidy.proofs.tidy_scanned.Statement.{statement}

@@ -1,12 +1,13 @@
+-- `vmd_tidy::tidy_size` meets its contract. Assumes nothing.
 use Rattle.vmd_tidy.specs.StageLaws.{read-scanned, read-refused}
 use Rattle.vmd_tidy.specs.Tidied.{cleared, longest}
-use Rattle.vmd_scan.specs.Meaning.{scan-is, scan-answer}
+use Rattle.vmd_scan.specs.Meaning.{scan-answer}
 use Rattle.vmd_output.proofs.Saves.{heard}
 use Rattle.vmd_base.specs.Meaning.{manner-of}
 use Rattle.vmd_format.specs.ExportLaws.{scan-scanned}
-use Rattle.vmd_format.specs.Answer.{map-answer, left}
+use Rattle.vmd_format.specs.Answer.{map-answer}
 use lib.ListN.{length}
-use mathlib.Core.Path.{_≡_, refl, sym, ap, _∙_}
+use mathlib.Core.Path.{refl}
 use borrow.Author.Needs.{needs}
 use Rattle.vmd_tidy.proofs.tidy_size.Statement.{statement}
 use Rattle.vmd_tidy.proofs.tidy_size.Tie as tie

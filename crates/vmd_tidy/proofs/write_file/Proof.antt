@@ -1,10 +1,11 @@
+-- `vmd_tidy::write_file` meets its contract. Assumes nothing.
 use Rattle.vmd_tidy.specs.StageLaws.{file-rest, kept-fewer, counts-kept}
 use Rattle.vmd_tidy.specs.Stages.{front-bytes, back-bytes, Fewer}
 use Rattle.vmd_tables.proofs.Leaders.{beyond-then}
 use Rattle.vmd_bytes.proofs.Writes.{rest-room, rest-then, rest-done}
 use Rattle.vmd_scan.specs.Meaning.{scan-is}
 use mathlib.Core.List.{_++_}
-use mathlib.Core.Path.{sym, ap, _∙_, subst}
+use mathlib.Core.Path.{sym, _∙_, subst}
 use native.Mathlib.Omega.{arith}
 use borrow.Author.Needs.{needs}
 use Rattle.vmd_tidy.proofs.write_file.Statement.{statement}

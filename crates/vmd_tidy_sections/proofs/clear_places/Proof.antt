@@ -1,3 +1,4 @@
+-- `vmd_tidy_sections::clear_places` meets its contract. Assumes nothing.
 use Rattle.vmd_tidy_sections.specs.FrontLaws.{clear-turn, clear-end}
 use Rattle.vmd_bytes.proofs.Laws.{splice-nil}
 use Rattle.vmd_bytes.specs.Slices.{splice}

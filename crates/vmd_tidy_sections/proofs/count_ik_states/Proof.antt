@@ -1,10 +1,11 @@
+-- `vmd_tidy_sections::count_ik_states` meets its contract. Assumes nothing.
 use Rattle.vmd_tidy_sections.specs.SectionLaws.{Summed, summed-start, summed-turn, summed-end, states-in}
 use Rattle.vmd_sort.specs.Walk.{step}
 use Rattle.vmd_sort.specs.SortLaws.{all-at}
-use lib.ListN.{length, getD}
-use mathlib.Core.Path.{_≡_, sym, _∙_}
+use lib.ListN.{length}
+use mathlib.Core.Path.{sym, _∙_}
 use native.Mathlib.Omega.{arith}
-use Prim.Native.Nat.{ℕ, _-_, _+_, _≤_}
+use Prim.Native.Nat.{_-_, _≤_}
 use Rattle.vmd_tidy_sections.proofs.count_ik_states.Statement.{statement}
 use Rattle.vmd_tidy_sections.proofs.count_ik_states.Tie as tie
 

@@ -1,9 +1,8 @@
+-- `vmd_tidy_sections::count_keys` meets its contract. Assumes nothing.
 use Rattle.vmd_tidy_sections.specs.CountLaws.{keys-few}
 use Rattle.vmd_sort.specs.Walk.{step}
 use Rattle.vmd_sort.specs.Order.{key}
-use mathlib.Core.Path.{_∙_, sym}
 use native.Mathlib.Omega.{arith}
-use borrow.Author.Needs.{needs}
 use Rattle.vmd_tidy_sections.proofs.count_keys.Statement.{statement}
 use Rattle.vmd_tidy_sections.proofs.count_keys.Tie as tie
 

@@ -1,9 +1,10 @@
+-- `vmd_tidy_sections::count_properties` meets its contract. Assumes nothing.
 use Rattle.vmd_tidy_sections.specs.CountLaws.{keys-few, frames-many, frames-states}
 use Rattle.vmd_tidy_sections.specs.SectionLaws.{frames-kept}
 use Rattle.vmd_sort.specs.Walk.{step, states-there, total}
 use Rattle.vmd_sort.specs.Order.{there}
 use Rattle.vmd_base.specs.Meaning.{extent-is}
-use mathlib.Core.Path.{refl, sym, ap, _∙_}
+use mathlib.Core.Path.{refl, ap, _∙_}
 use native.Mathlib.Omega.{arith}
 use borrow.Author.Needs.{needs}
 use Rattle.vmd_tidy_sections.proofs.count_properties.Statement.{statement}

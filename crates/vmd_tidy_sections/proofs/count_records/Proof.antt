@@ -1,3 +1,4 @@
+-- `vmd_tidy_sections::count_records` meets its contract. Assumes nothing.
 use Rattle.vmd_tidy_sections.specs.CountLaws.{named-count, rows-many}
 use Rattle.vmd_tidy_sections.specs.SectionLaws.{one-kept}
 use Rattle.vmd_tidy_sections.specs.Sections.{tidied-places}
@@ -6,7 +7,7 @@ use Rattle.vmd_records.specs.declared.VmdKind.the-variants as kind
 use Rattle.vmd_base.specs.Meaning.{extent-is}
 use Rattle.vmd_format.specs.BytesLaws.{Bytes}
 use lib.ListN.{length}
-use mathlib.Core.Path.{refl, sym, ap, _∙_}
+use mathlib.Core.Path.{refl, ap, _∙_}
 use native.Mathlib.Omega.{arith}
 use borrow.Author.Needs.{needs}
 use Rattle.vmd_tidy_sections.proofs.count_records.Statement.{statement}

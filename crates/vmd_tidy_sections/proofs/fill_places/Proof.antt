@@ -1,8 +1,10 @@
-use Rattle.vmd_tidy_sections.specs.WalkLaws.{step-past, Filled, filled-start, filled-next, filled-turn, filled-end}
+-- `vmd_tidy_sections::fill_places` meets its contract. Assumes nothing.
+use Rattle.vmd_sort.specs.WalkLaws.{step-past}
+use Rattle.vmd_tidy_sections.specs.WalkLaws.{Filled, filled-start, filled-next, filled-turn, filled-end}
 use Rattle.vmd_sort.specs.Walk.{step}
 use lib.ListN.{length}
 use native.Mathlib.Nat.{le-trans}
-use mathlib.Core.Path.{refl, _∙_, sym}
+use mathlib.Core.Path.{refl}
 use native.Mathlib.Omega.{arith}
 use Prim.Native.Nat.{_-_}
 use Rattle.vmd_tidy_sections.proofs.fill_places.Statement.{statement}

@@ -1,13 +1,11 @@
+-- `vmd_tidy_sections::keep_properties` meets its contract. Assumes nothing.
 use Rattle.vmd_tidy_sections.specs.CountLaws.{frames-states}
 use Rattle.vmd_tidy_sections.specs.SectionLaws.{frames-count, frames-there}
 use Rattle.vmd_tidy_sections.specs.FrontLaws.{front-count}
 use Rattle.vmd_sort.specs.Walk.{states-there, total}
 use Rattle.vmd_base.specs.Meaning.{extent-is}
-use lib.ListN.{length, take}
-use Prim.Native.Nat.{ℕ}
 use mathlib.Core.Path.{_∙_, sym, ap}
 use native.Mathlib.Omega.{arith}
-use borrow.Author.Needs.{needs}
 use Rattle.vmd_tidy_sections.proofs.keep_properties.Statement.{statement}
 use Rattle.vmd_tidy_sections.proofs.keep_properties.Tie as tie
 

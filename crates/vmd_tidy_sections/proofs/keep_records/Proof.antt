@@ -1,10 +1,8 @@
+-- `vmd_tidy_sections::keep_records` meets its contract. Assumes nothing.
 use Rattle.vmd_tidy_sections.specs.SectionLaws.{rows-count}
 use Rattle.vmd_tidy_sections.specs.FrontLaws.{front-count}
 use Rattle.vmd_base.specs.Meaning.{extent-is}
-use lib.ListN.{length}
-use mathlib.Core.Path.{_∙_, sym, ap}
 use native.Mathlib.Omega.{arith}
-use borrow.Author.Needs.{needs}
 use Rattle.vmd_tidy_sections.proofs.keep_records.Statement.{statement}
 use Rattle.vmd_tidy_sections.proofs.keep_records.Tie as tie
 

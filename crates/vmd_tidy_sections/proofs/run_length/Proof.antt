@@ -1,9 +1,9 @@
+-- `vmd_tidy_sections::run_length` meets its contract. Assumes nothing.
 use Rattle.vmd_tidy_sections.specs.RunLaws.{Run, run-start, run-turn}
 use Rattle.vmd_sort.specs.SortLaws.{all-at}
-use Rattle.vmd_sort.specs.Walk.{step, places-by, end-by}
+use Rattle.vmd_sort.specs.Walk.{step}
 use lib.ListN.{length, getD}
-use borrow.Author.Tests.{not-true, not-false}
-use mathlib.Core.Path.{_≡_, refl, _∙_, sym, subst}
+use mathlib.Core.Path.{_≡_, subst}
 use native.Mathlib.Omega.{arith}
 use Prim.Native.Nat.{_-_, _≤_, _+_}
 use Rattle.vmd_tidy_sections.proofs.run_length.Statement.{statement}

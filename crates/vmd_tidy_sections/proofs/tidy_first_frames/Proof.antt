@@ -1,10 +1,10 @@
+-- `vmd_tidy_sections::tidy_first_frames` meets its contract. Assumes nothing.
 use Rattle.vmd_tidy_sections.specs.FrontLaws.{front-count, front-beyond, front-take}
 use Rattle.vmd_tracks.specs.Tracks.{lasts}
-use Rattle.vmd_sort.specs.Walk.{step, places-by, end-by}
+use Rattle.vmd_sort.specs.Walk.{step, places-by}
 use Rattle.vmd_sort.specs.Order.{there}
-use lib.ListN.{length}
-use Prim.Native.Nat.{ℕ, _≤_}
-use mathlib.Core.Path.{_≡_, sym, ap, _∙_, subst}
+use Prim.Native.Nat.{ℕ}
+use mathlib.Core.Path.{sym, ap, _∙_}
 use native.Mathlib.Omega.{arith}
 use borrow.Author.Needs.{needs}
 use Rattle.vmd_tidy_sections.proofs.tidy_first_frames.Statement.{statement}

@@ -1,9 +1,9 @@
-use Rattle.vmd_tidy_sections.specs.WalkLaws.{step-past, places-rise, places-count}
+-- `vmd_tidy_sections::tidy_frames` meets its contract. Assumes nothing.
+use Rattle.vmd_sort.specs.WalkLaws.{step-past, places-rise, places-count}
 use Rattle.vmd_tracks.specs.Tracks.{lasts}
-use Rattle.vmd_sort.specs.Walk.{step}
 use Rattle.vmd_sort.specs.Order.{there}
 use lib.ListN.{length}
-use mathlib.Core.Path.{_∙_, ap, sym}
+use mathlib.Core.Path.{_∙_, ap}
 use native.Mathlib.Omega.{arith}
 use borrow.Author.Needs.{needs}
 use Rattle.vmd_tidy_sections.proofs.tidy_frames.Statement.{statement}

@@ -1,8 +1,8 @@
+-- `vmd_tidy_sections::tidy_properties` meets its contract. Assumes nothing.
 use Rattle.vmd_tidy_sections.specs.SectionLaws.{frames-kept}
 use Rattle.vmd_base.specs.Meaning.{extent-is}
 use mathlib.Core.Path.{_∙_}
 use native.Mathlib.Omega.{arith}
-use borrow.Author.Needs.{needs}
 use Rattle.vmd_tidy_sections.proofs.tidy_properties.Statement.{statement}
 use Rattle.vmd_tidy_sections.proofs.tidy_properties.Tie as tie
 

@@ -1,9 +1,8 @@
+-- `vmd_tidy_sections::tidy_records` meets its contract. Assumes nothing.
 use Rattle.vmd_tidy_sections.specs.SectionLaws.{one-kept}
 use Rattle.vmd_tidy_sections.specs.Sections.{tidied-places}
 use Rattle.vmd_tidy_sections.specs.RunLaws.{fixed-ends}
-use Rattle.vmd_sort.specs.Walk.{step}
-use Rattle.vmd_base.specs.Meaning.{extent-is}
-use mathlib.Core.Path.{_≡_, sym, _∙_}
+use mathlib.Core.Path.{_∙_}
 use native.Mathlib.Omega.{arith}
 use borrow.Author.Needs.{needs}
 use Rattle.vmd_tidy_sections.proofs.tidy_records.Statement.{statement}

@@ -1,11 +1,11 @@
+-- `vmd_tidy_sections::write_frames` meets its contract. Assumes nothing.
 use Rattle.vmd_tidy_sections.specs.RunLaws.{Left, left-start, left-end, run-room, run-then, run-frames}
 use Rattle.vmd_tidy_sections.specs.WalkLaws.{frames-reach}
 use Rattle.vmd_format.specs.PlacesLaws.{property-in}
 use Rattle.vmd_format.specs.Take.{property}
 use lib.ListN.{length}
-use mathlib.Core.Path.{_≡_, refl, _∙_, sym}
 use native.Mathlib.Omega.{arith}
-use Prim.Native.Nat.{_-_, _≤_, _+_}
+use Prim.Native.Nat.{_-_}
 use Rattle.vmd_tidy_sections.proofs.write_frames.Statement.{statement}
 use Rattle.vmd_tidy_sections.proofs.write_frames.Tie as tie
 

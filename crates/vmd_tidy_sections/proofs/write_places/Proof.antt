@@ -1,3 +1,4 @@
+-- `vmd_tidy_sections::write_places` meets its contract. Assumes nothing.
 use Rattle.vmd_tidy_sections.specs.RunLaws.{Left, left-start, left-end, run-room, run-then, run-records, end-fixed}
 use Rattle.vmd_tidy_sections.specs.KindLaws.{kind-some}
 use Rattle.vmd_tidy_sections.specs.Sections.{placed}
@@ -5,9 +6,9 @@ use Rattle.vmd_sort.specs.Walk.{step, places-by, end-by}
 use Rattle.vmd_records.specs.KindLaws.{kind-sized}
 use Rattle.vmd_records.specs.Kinds.{layout, size-of}
 use lib.ListN.{length, getD, take, drop}
-use mathlib.Core.Path.{_≡_, refl, _∙_, sym, subst}
+use mathlib.Core.Path.{_≡_, subst}
 use native.Mathlib.Omega.{arith}
-use Prim.Native.Nat.{_-_, _≤_, _+_, _*_, _<_}
+use Prim.Native.Nat.{_-_, _≤_}
 use Rattle.vmd_tidy_sections.proofs.write_places.Statement.{statement}
 use Rattle.vmd_tidy_sections.proofs.write_places.Tie as tie
 

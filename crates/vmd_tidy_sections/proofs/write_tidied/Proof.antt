@@ -1,4 +1,4 @@
-use Rattle.vmd_sort.specs.Walk.{step}
+-- `vmd_tidy_sections::write_tidied` meets its contract. Assumes nothing.
 use Rattle.vmd_tidy_sections.specs.SectionLaws.{rows-count, rows-bytes, places-there}
 use Rattle.vmd_tidy_sections.specs.FrontLaws.{front-count}
 use Rattle.vmd_tidy_sections.specs.RunLaws.{fixed-ends}
@@ -8,11 +8,8 @@ use Rattle.vmd_bytes.proofs.Writes.{rest-as, rest-room, rest-then, rest-done}
 use Rattle.vmd_records.specs.Kinds.{layout, size-of}
 use Rattle.vmd_base.specs.Meaning.{extent-is}
 use Rattle.vmd_format.specs.Read.{write-all}
-use Rattle.vmd_format.specs.Bytes.{u32-bytes}
-use lib.ListN.{length, take}
-use mathlib.Core.List.{List}
-use Prim.Native.Nat.{ℕ, _≤_}
-use mathlib.Core.Path.{_≡_, sym, ap, _∙_}
+use lib.ListN.{take}
+use mathlib.Core.Path.{sym}
 use native.Mathlib.Omega.{arith}
 use borrow.Author.Needs.{needs}
 use Rattle.vmd_tidy_sections.proofs.write_tidied.Statement.{statement}

@@ -1,3 +1,4 @@
+-- `vmd_tidy_sections::write_tidied_properties` meets its contract. Assumes nothing.
 use Rattle.vmd_tidy_sections.specs.SectionLaws.{frames-count, frames-bytes, frames-there}
 use Rattle.vmd_tidy_sections.specs.FrontLaws.{front-count}
 use Rattle.vmd_bytes.proofs.Writes.{rest-as, rest-room, rest-then, rest-done}
@@ -5,9 +6,8 @@ use Rattle.vmd_base.specs.Meaning.{extent-is}
 use Rattle.vmd_format.specs.PlacesLaws.{property-in}
 use Rattle.vmd_format.specs.Take.{property}
 use Rattle.vmd_format.specs.Read.{write-all}
-use lib.ListN.{length, take}
-use Prim.Native.Nat.{ℕ, _≤_}
-use mathlib.Core.Path.{_≡_, sym, ap, _∙_}
+use lib.ListN.{take}
+use mathlib.Core.Path.{sym}
 use native.Mathlib.Omega.{arith}
 use borrow.Author.Needs.{needs}
 use Rattle.vmd_tidy_sections.proofs.write_tidied_properties.Statement.{statement}
