@@ -1,6 +1,6 @@
 //! Tidying: the library's call in lent memory, how long the tidied file is alone, and the crate's call, which makes memory of
-//! its own; each beside a copy of the file and beside the same in plain Rust. And how long a refusal for an output that is too
-//! short takes, since the records are then counted without memory.
+//! its own; each beside a copy of the file, its export and the same in plain Rust. And how long a refusal for an output that is
+//! too short takes, since the records are then counted without memory.
 use std::hint::black_box;
 
 use vmd::{Refusal, Take};
@@ -14,17 +14,19 @@ use crate::{Rounds, cell, head, plain, ratio, row};
 enum Task {
     Tidy,
     Size,
+    Export,
     Owned,
     Plain,
 }
 
 impl Task {
-    const ALL: [Task; 4] = [Task::Tidy, Task::Size, Task::Owned, Task::Plain];
+    const ALL: [Task; 5] = [Task::Tidy, Task::Size, Task::Export, Task::Owned, Task::Plain];
 
     fn name(self) -> &'static str {
         match self {
             Task::Tidy => "tidy",
             Task::Size => "size",
+            Task::Export => "export",
             Task::Owned => "vmd::tidy",
             Task::Plain => "plain Rust",
         }
@@ -51,6 +53,7 @@ impl Case {
         match task {
             Task::Tidy => drop(black_box(vmd::tidy_into(&self.file, &mut self.scratch, &mut self.out).unwrap())),
             Task::Size => drop(black_box(vmd::tidy_size(&self.file, &mut self.scratch).unwrap())),
+            Task::Export => drop(black_box(vmd::export_into(&self.file, &mut self.out).unwrap())),
             Task::Owned => drop(black_box(vmd::tidy(&self.file).unwrap())),
             Task::Plain => drop(black_box(plain::tidy(&self.file))),
         }
@@ -63,7 +66,7 @@ impl Case {
     }
 
     /// Each task after one run of its own, and the copy after two.
-    fn times(&mut self) -> [Rounds; 4] {
+    fn times(&mut self) -> [Rounds; 5] {
         let mut times = Task::ALL.map(|_| Rounds::default());
         for _ in 0..ROUNDS {
             let copy = after(2, 1, || self.copy());
@@ -118,6 +121,8 @@ fn measured(size: usize) -> Vec<Measured> {
     all.push(of(Section::Bones, 1, Keys::Tidy));
     all.push(Measured { sections: mixed.to_vec(), keys: Keys::Tidy, twice: false });
     all.push(of(Section::Morphs, 1, Keys::Tidy));
+    let others = [Section::Cameras, Section::Lights, Section::SelfShadows, Section::Properties, Section::IkStates];
+    all.extend(others.map(|section| of(section, 1, Keys::Tidy)));
     all.extend([Section::Cameras, Section::SelfShadows, Section::IkStates].map(|section| of(section, 1, Keys::Shuffled)));
     all
 }
