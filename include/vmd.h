@@ -309,7 +309,7 @@ uint32_t vmd_build_animation_from_parts(const uint8_t *model_name, size_t model_
  * record are long enough for any names where 15 bytes for each record are at most 4,294,967,295 (286,331,153 records).
  *
  * With such tables no names are counted first. With a shorter one a split counts the section's names, as vmd_split_sizes
- * does: both go over the records once for every 16,384 to 32,768 different names. So names whose tables are as long as
+ * does: both go over the records once for every 16,384 to 32,767 different names. So names whose tables are as long as
  * vmd_split_sizes says are counted twice. Both calls take up to 256 KiB of stack; they take longest where nearly all names
  * differ.
  */
@@ -339,8 +339,9 @@ uint32_t vmd_split_animation_into_parts(const uint8_t *file, size_t file_len,
  * ---- season figures
  *
  * Figures over takes that are lent one after another. They are held in two arrays: counts has the smallest and the largest
- * count of each section, figures has 64-bit numbers, at the indices VMD_SEASON_.. above. vmd_season_none sets both to 0, which are the figures of no takes;
- * vmd_season_add adds a take; vmd_season_mean gives the mean of all six sections' records per accepted take.
+ * count of each section, figures has 64-bit numbers, at the indices VMD_SEASON_.. above. vmd_season_none sets both to 0,
+ * which are the figures of no takes; vmd_season_add adds a take; vmd_season_mean gives the mean of all six sections' records
+ * per accepted take.
  *
  * A take that is refused (1, 2) adds one to figures[VMD_SEASON_REFUSED] and nothing else. So does one with which any other of
  * the 64-bit figures would pass 18,446,744,073,709,551,615. The number of refused takes stops at that value. The number of

@@ -41,7 +41,8 @@ lay_out() {
     while read -r _ file; do
         cp -p "$sources/$file" "$workspace/$file"
     done < "$root/oracle/SHA256SUMS"
-    (cd "$workspace" && sha256sum --check --quiet "$root/oracle/SHA256SUMS") || fail "the original's files are not those of SHA256SUMS"
+    (cd "$workspace" && sha256sum --check --quiet "$root/oracle/SHA256SUMS") ||
+        fail "the original's files are not those of SHA256SUMS"
 }
 
 find_library() {

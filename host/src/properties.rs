@@ -170,8 +170,8 @@ mod tests {
         assert_eq!((within.nth(10), within.nth(4), within.next()), (Some(frame(10)), Some(frame(15)), Some(frame(16))));
     }
 
-    /// A jump past a place of the scratch goes on from that place, and the frames after it follow: this scratch has the places of
-    /// other frames, so that it is seen where a frame was reached from.
+    /// A jump past a place of the scratch goes on from that place, and the frames after it follow: this scratch has the places
+    /// of other frames, so that it is seen where a frame was reached from.
     #[test]
     fn a_jump_goes_on_from_the_scratch() {
         let file = take(0, 100);

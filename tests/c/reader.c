@@ -170,7 +170,7 @@ enum { PLAIN, FIRST_BYTES, FIRST_BYTES_A };
 static const struct {
     const char *name;
     int kind;
-    size_t len; /* of FIRST_BYTES: of the magic and the zeros after it; of FIRST_BYTES_A: of bytes 0x41; else the newer header's */
+    size_t len; /* of FIRST_BYTES: the magic and the zeros after it; of FIRST_BYTES_A: bytes 0x41; else the newer header */
     int n_counts;
     uint32_t counts[6];
     int over; /* bytes after the counts */
