@@ -4,7 +4,7 @@ mod common;
 
 use std::fs::{self, File, Permissions};
 use std::io::{BufRead, BufReader, Read};
-use std::os::unix::fs::PermissionsExt;
+use std::os::unix::fs::{PermissionsExt, symlink};
 use std::path::Path;
 use std::process::{Command, Output, Stdio};
 use std::time::{Duration, SystemTime};
@@ -141,6 +141,33 @@ fn vmd_list_shows_what_it_is_doing_and_is_built_again() {
     assert_eq!(calls(&folder), 2, "a source is newer, and it was not built again");
     run(&folder, &["vmd-list"]);
     assert_eq!(calls(&folder), 2, "nothing is newer, and it was built again");
+}
+
+/// A file that is named would be waited for on standard input.
+#[test]
+fn vmd_list_takes_no_words() {
+    let folder = repository("words");
+    let done = run(&folder, &["vmd-list", "take.vmd"]);
+    let sentence = "vmd-list: the take comes on standard input: vmd-list < FILE\n";
+    assert_eq!((status(&done), out(&done), err(&done)), (2, String::new(), sentence.into()));
+    assert_eq!(calls(&folder), 0);
+}
+
+/// A link to the script in another folder, as one of the PATH, runs the repository's program.
+#[test]
+fn scripts_run_through_links() {
+    let folder = repository("links");
+    folder.file("go", b"");
+    fs::create_dir(folder.join("bin")).unwrap();
+    for (link, to) in [("bin/vmd", "../vmd"), ("bin/take", "vmd"), ("bin/vmd-list", "../vmd-list")] {
+        symlink(to, folder.join(link)).unwrap();
+    }
+    for (words, printed) in
+        [(&["bin/vmd", "list"][..], "ran list\n"), (&["bin/take", "tidy"], "ran tidy\n"), (&["bin/vmd-list"], "listed\n")]
+    {
+        let done = run(&folder, words);
+        assert_eq!((status(&done), out(&done)), (0, printed.into()), "{words:?}: {}", err(&done));
+    }
 }
 
 /// All that the toolchain said, and status 2.
