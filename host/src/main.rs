@@ -54,6 +54,7 @@ OUT may be one of the takes that are read, and a link: then the file it leads to
 anything fails, not at all. It keeps its mode, access list and user's attributes, and its owner and group where the system
 allows it. A take that is read-only is not replaced, by root neither. A file .vmd-save-N.tmp was left by a command that was
 killed; the next one that saves in its folder removes it, unless it is OUT, was read, or something came through a pipe.
+Where there is no room for a save, such files may be removed by hand.
 
 In the figures of a season a take that is refused counts as refused and nowhere else. A file that cannot be read counts
 nowhere, not as refused either: the figures are those of the other files. With several files a terminal shows how far the
@@ -135,6 +136,7 @@ impl fmt::Display for Failure {
 }
 
 fn main() -> ExitCode {
+    streams::let_writes_past_the_limit_fail();
     let words: Vec<OsString> = env::args_os().skip(1).collect();
     match run(&words) {
         Ok(status) => ExitCode::from(status),

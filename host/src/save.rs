@@ -106,11 +106,11 @@ fn replace(path: &Path, bytes: &[u8]) -> Result<NewFile, SaveError> {
     // Opened first: a folder that cannot be flushed is found while nothing has changed yet.
     let flushed = File::open(folder).doing("open the folder", folder)?;
     let mut new = NewFile::create(&target, old.is_some())?;
-    new.file.write_all(bytes).doing("write the new file", path)?;
+    new.file.write_all(bytes).map_err(|error| with_what_is_left(error, folder)).doing("write the new file", path)?;
     if let Some(old) = &old {
         rights::keep(old, &new.file, path)?;
     }
-    new.file.sync_all().doing("flush the new file", path)?;
+    new.file.sync_all().map_err(|error| with_what_is_left(error, folder)).doing("flush the new file", path)?;
     system::forget_cached(&new.file);
     compare(&mut new.file, bytes).doing("read the new file back", path)?;
     new.take_name(&target).doing("replace the file", path)?;
@@ -233,7 +233,7 @@ impl NewFile {
                     }
                 }
                 Err(error) if error.kind() == ErrorKind::AlreadyExists => {}
-                Err(error) => return Err(error).doing(doing, folder_of(target)),
+                Err(error) => return Err(with_what_is_left(error, folder_of(target))).doing(doing, folder_of(target)),
             }
         }
         Err(io::Error::other("too many files .vmd-save-N.tmp are there")).doing(doing, folder_of(target))
@@ -265,19 +265,39 @@ impl Drop for NewFile {
     }
 }
 
-/// Removes the new files of saves that were ended, those whose lock can be had, but for those that were read. What cannot be
-/// removed stays.
+/// Removes the new files of saves that were ended, but for those that were read. What cannot be removed stays.
 fn clear(folder: &Path, read: &[FileId]) {
+    each_left(folder, read, |path, _| {
+        let _ = fs::remove_file(path);
+    });
+}
+
+/// The new files of saves that were ended, those whose lock can be had, but for these. Each is locked while it is looked at.
+fn each_left(folder: &Path, but: &[FileId], mut look: impl FnMut(&Path, &Metadata)) {
     let Ok(entries) = fs::read_dir(folder) else { return };
     for path in entries.flatten().filter(|entry| is_new_name(&entry.file_name())).map(|entry| entry.path()) {
-        if fs::symlink_metadata(&path).is_ok_and(|found| found.is_file() && !read.contains(&FileId::of(&found)))
+        if let Ok(found) = fs::symlink_metadata(&path)
+            && found.is_file()
+            && !but.contains(&FileId::of(&found))
             && let Ok(file) = File::open(&path)
             && file.try_lock().is_ok()
             && is_named(&file, &path)
         {
-            let _ = fs::remove_file(&path);
+            look(&path, &found);
         }
     }
+}
+
+/// Where there is no room, what saves that were ended have left may be why: only one that is done removes it.
+fn with_what_is_left(error: io::Error, folder: &Path) -> io::Error {
+    if !matches!(error.kind(), ErrorKind::StorageFull | ErrorKind::QuotaExceeded) {
+        return error;
+    }
+    let mut bytes = None;
+    each_left(folder, &[], |_, found| bytes = Some(bytes.unwrap_or(0) + found.len()));
+    let Some(bytes) = bytes else { return error };
+    let left = format!("files .vmd-save-N.tmp that killed saves left there take {bytes} bytes and may be removed");
+    io::Error::new(error.kind(), format!("{error}; {left}"))
 }
 
 fn is_named(file: &File, path: &Path) -> bool {

@@ -2,7 +2,8 @@
 //!
 //! Before `main` Rust puts /dev/null where one of them is closed, and its own handles take one that is open the other way
 //! for an empty one, or for one that takes everything: a command that saves nothing would say that it is done. So whether
-//! they are open is looked at before Rust does, and they are read and written as files.
+//! they are open is looked at before Rust does, and they are read and written as files. And a signal that a write can end
+//! the process with.
 use std::ffi::c_int;
 use std::fs::File;
 use std::io;
@@ -32,6 +33,19 @@ fn is_closed(descriptor: c_int) -> bool {
     }
     // SAFETY: F_GETFD reads the flags of a descriptor, of any number, and changes nothing.
     unsafe { fcntl(descriptor, F_GETFD) == -1 }
+}
+
+/// Has a write past the limit on the length of files (`ulimit -f`) fail with an error that can be told. It would end the
+/// process, and leave the new file of a save behind.
+pub fn let_writes_past_the_limit_fail() {
+    const SIGXFSZ: c_int = 25;
+    const SIG_IGN: usize = 1;
+    // SAFETY: so the system's header declares it, a handler as its address.
+    unsafe extern "C" {
+        fn signal(number: c_int, handler: usize) -> usize;
+    }
+    // SAFETY: SIG_IGN is no function that would be called.
+    unsafe { signal(SIGXFSZ, SIG_IGN) };
 }
 
 pub fn standard_input() -> io::Result<File> {

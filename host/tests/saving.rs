@@ -313,24 +313,22 @@ fn a_byte_that_the_disk_lost() {
     assert!(!saving.is_new());
 }
 
-/// A disk that is full, by a limit on the length of files: the write fails, or the process is ended.
+/// A disk that is full, by a limit on the length of files: the write fails, whether or not its signal would end the process.
 #[test]
 fn no_room_by_a_limit() {
     let saving = Saving::of("limit", 1000);
-    let done = saving.run(&mut vmd_under("trap '' XFSZ; ulimit -f 8"));
-    assert_eq!(status(&done), 2);
-    assert!(err(&done).contains("cannot write the new file: File too large"), "{}", err(&done));
-    assert!(!saving.is_new());
-    assert_eq!(saving.folder.names(), ["new", "take"]);
-
-    let done = saving.run(&mut vmd_under("ulimit -f 8"));
-    assert!(done.status.code().is_none(), "SIGXFSZ ends the process");
-    assert!(!saving.is_new());
-    assert_eq!(saving.litter(), 1);
+    for setting in ["ulimit -f 8", "trap '' XFSZ; ulimit -f 8"] {
+        let done = saving.run(&mut vmd_under(setting));
+        assert_eq!(status(&done), 2, "{setting}");
+        assert!(err(&done).contains("cannot write the new file: File too large"), "{}", err(&done));
+        assert!(!saving.is_new());
+        assert_eq!(saving.folder.names(), ["new", "take"]);
+    }
     saving.expect_next_save_works();
 }
 
-/// A disk that is full, by a small file system of the test's own, where root may mount one.
+/// A disk that is full, by a small file system of the test's own, where root may mount one. What killed saves left there is
+/// told, and stays.
 #[test]
 fn no_room_on_the_disk() {
     let saving = Saving::of("disk", 9000); // 1 MB
@@ -340,15 +338,23 @@ fn no_room_on_the_disk() {
         "$2" export "$1/new" -o "$1/disk/take"
         echo "$?" > "$1/status"
         ls -A "$1/disk" > "$1/names"
+        for n in 0 7; do head -c 1000 "$1/take" > "$1/disk/.vmd-save-$n.tmp"; done
+        "$2" export "$1/new" -o "$1/disk/take"
+        echo "$?" >> "$1/status"
+        ls -A "$1/disk" >> "$1/names"
         cp "$1/disk/take" "$1/take"
     "#;
     let mut shell = Command::new("unshare");
     shell.args(["-m", "sh", "-c", script, "sh"]).arg(&saving.folder.0).arg(env!("CARGO_BIN_EXE_vmd"));
     match shell.output() {
         Ok(done) if done.status.success() => {
-            assert_eq!(fs::read_to_string(saving.folder.join("status")).unwrap(), "2\n");
-            assert!(err(&done).contains("cannot write the new file: No space left on device"), "{}", err(&done));
-            assert_eq!(fs::read_to_string(saving.folder.join("names")).unwrap(), "take\n");
+            assert_eq!(fs::read_to_string(saving.folder.join("status")).unwrap(), "2\n2\n");
+            let full = "cannot write the new file: No space left on device (os error 28)";
+            let left = "; files .vmd-save-N.tmp that killed saves left there take 2000 bytes and may be removed";
+            let said: Vec<_> = err(&done).lines().map(|line| line.split_once(full).unwrap().1.to_owned()).collect();
+            assert_eq!(said, ["", left]);
+            let names = fs::read_to_string(saving.folder.join("names")).unwrap();
+            assert_eq!(names, "take\n.vmd-save-0.tmp\n.vmd-save-7.tmp\ntake\n");
             assert!(!saving.is_new());
         }
         _ => println!("not tried: no file system can be mounted here"),
@@ -725,7 +731,7 @@ fn what_saves_have_left_is_removed_after_one_that_is_done() {
     let others = [".vmd-save-.tmp", ".vmd-save-1x.tmp", "x.vmd-save-1.tmp"];
     left.iter().chain(&others).for_each(|name| drop(saving.folder.file(name, b"left")));
     let names = saving.folder.names();
-    assert_eq!(status(&saving.run(&mut vmd_under("trap '' XFSZ; ulimit -f 8"))), 2);
+    assert_eq!(status(&saving.run(&mut vmd_under("ulimit -f 8"))), 2);
     assert_eq!(saving.folder.names(), names);
     assert_eq!(status(&saving.run(&mut vmd())), 0);
     assert!(saving.is_new());
@@ -778,20 +784,21 @@ fn a_take_that_was_read_is_not_removed() {
 fn a_target_that_is_named_as_new_files_are() {
     let saving = Saving::of("target", 1000);
     let target = saving.folder.join(".vmd-save-0.tmp");
-    let saved_under = |settings: &str| {
-        vmd_under(settings).arg("export").arg(saving.folder.join("new")).arg("-o").arg(&target).output().unwrap()
-    };
+    let saved_by = |vmd: &mut Command| vmd.arg("export").arg(saving.folder.join("new")).arg("-o").arg(&target).output();
+    let saved_under = |settings: &str| saved_by(&mut vmd_under(settings)).unwrap();
     // not there yet: it is there whole or not at all
-    assert!(saved_under("ulimit -f 8").status.code().is_none());
+    if saved_by(&mut injected(&("fsync".into(), 1), "signal=SIGKILL")).is_err() {
+        println!("not tried: there is no strace here");
+    }
     assert!(!target.exists());
-    assert_eq!(status(&saved_under("trap '' XFSZ; ulimit -f 8")), 2);
+    assert_eq!(status(&saved_under("ulimit -f 8")), 2);
     assert!(!target.exists());
     let done = saved_under(":");
     assert_eq!((status(&done), err(&done)), (0, String::new()));
     assert!(fs::read(&target).unwrap() == saving.new);
     // saved over
     fs::write(&target, &saving.old).unwrap();
-    assert_eq!(status(&saved_under("trap '' XFSZ; ulimit -f 8")), 2);
+    assert_eq!(status(&saved_under("ulimit -f 8")), 2);
     assert!(fs::read(&target).unwrap() == saving.old);
     assert_eq!(status(&saved_under(":")), 0);
     assert!(fs::read(&target).unwrap() == saving.new);
