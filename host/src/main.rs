@@ -30,7 +30,8 @@ vmd: VMD takes (MikuMikuDance motion files)
   vmd export IN -o OUT            saves a take in canonical form
   vmd export --older IN -o OUT    the same in the older edition, which has room for a model name of 10 bytes: a take with a
                                   longer one is refused
-  vmd join FIRST SECOND.. -o OUT  joins takes from left to right: in every section the records of each, one after another
+  vmd join FIRST SECOND.. -o OUT  joins takes from left to right: in every section the records of each, one after another,
+                                  under the first model name that is not empty
   vmd tidy IN -o OUT              saves a take without the keys that never show: of the records of one bone, of one morph or
                                   of another section that have the same frame the last is kept. The records of each bone
                                   and morph stand together, in order of first appearance, and all are sorted by frame. Once
@@ -62,7 +63,7 @@ command is.
 
 Exit status: 0; 1 where a take is refused; 2 for bad usage, or where a file cannot be read or written: a file OUT is as it
 was; 3 where OUT is the new file, and only its folder could not be flushed: after a loss of power the old one may be back.
-With status 3 a join into one of its own takes is not to be repeated.
+With status 3 a join into one of its own takes is not to be repeated. Of several the largest is given.
 ";
 
 /// Bytes enough to see whether a file is a take: those before the first section, of which the older edition has fewer.

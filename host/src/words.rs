@@ -34,7 +34,11 @@ impl<'w> Words<'w> {
     }
 
     fn name_output(&mut self, word: Option<&'w OsStr>) -> Result<(), String> {
-        let word = word.filter(|word| !is_option(word)).ok_or("no file is named by -o OUT")?;
+        let word = word.ok_or("no file is named by -o OUT")?;
+        if is_option(word) {
+            let shown = shown(word);
+            return Err(format!("no file is named by -o OUT: '{shown}' reads as an option, './{shown}' names a file"));
+        }
         match self.out.replace(word) {
             None => Ok(()),
             Some(_) => Err("-o OUT is given twice".into()),
