@@ -27,7 +27,8 @@ vmd: VMD takes (MikuMikuDance motion files)
   vmd list FILE..                 a line for each take: bones, morphs, cameras, lights, self-shadows, properties, IK states,
                                   smallest frame, largest frame, export length; or 'refused' and the number of the refusal.
                                   With several files each line has the file's name and ': ' before it
-  vmd export IN -o OUT            saves a take in canonical form
+  vmd export IN -o OUT            saves a take in canonical form: all six sections, zeros after each name, flags 0 or 1, and
+                                  no bytes after the last record
   vmd export --older IN -o OUT    the same in the older edition, which has room for a model name of 10 bytes: a take with a
                                   longer one is refused
   vmd join FIRST SECOND.. -o OUT  joins takes from left to right: in every section the records of each, one after another,
