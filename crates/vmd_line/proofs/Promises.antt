@@ -1,15 +1,17 @@
--- Two promises of the line: its last number is the length of the export, and 512 places of scratch are enough. Assumes nothing.
-use Prim.Native.Nat.{ℕ, _≤_}
+-- Promises of the line: which one a file has, its last number is the length of the export, and 512 places of scratch are enough.
+-- Assumes nothing.
+use Prim.Native.Nat.{ℕ, _≤_, _<_}
 use mathlib.Core.Path.{_≡_, refl, ap}
 use mathlib.Core.Bool.{_&&_}
 use mathlib.Core.List.{List, [], _∷_, _++_}
 use native.Mathlib.Omega.{arith}
+use borrow.Author.Tests.{le-leb, lt-leb}
 use lib.Dec.{T}
-use lib.ListN.{length}
+use lib.ListN.{length, replicate}
 use Rattle.vmd_format.specs.Answer.{given, map-answer}
 use Rattle.vmd_format.specs.Read.{Manner, lenient}
 use Rattle.vmd_format.specs.Take.{newer, same, write-take}
-use Rattle.vmd_format.specs.Opening.{places-needed, Opening, open-file}
+use Rattle.vmd_format.specs.Opening.{places-needed, Opening, open-file, scratch-after}
 use Rattle.vmd_format.specs.Join.{export-file, file-length}
 use Rattle.vmd_format.specs.Places.{scan-file}
 use Rattle.vmd_format.specs.OpeningLaws.{ninth-enough}
@@ -17,7 +19,21 @@ use Rattle.vmd_format.specs.InsideLaws.{opened-scan}
 use Rattle.vmd_format.specs.RefusalLaws.{Refuses, reading-numbers, enough-refuses}
 use Rattle.vmd_format.specs.ExportLaws.{take-in, export-by-places, scan-scanned, scan-counts, scan-length}
 use Rattle.vmd_format.specs.Computed.{computed, start, u0}
-use Rattle.vmd_line.specs.Line.{tens-if, digits, decimal, spaced, row, too-long, refused-line, export-size, numbers, line-of, line-if, line}
+use Rattle.vmd_line.specs.Line.{tens-if, digits, decimal, spaced, row, too-long, refused-line, export-size, numbers, line-of, line-if, line, line-scratch-if, line-scratch}
+
+-- ---- which line
+
+-- "of up to 65,536 bytes": the line of what opening answers
+pub listed : (m : Manner) (s scratch : List ℕ) → length s ≤ 65536
+    → (line m s (length scratch) ≡ line-of (open-file m s (length scratch))) × (line-scratch m s scratch ≡ scratch-after m s scratch)
+unfolding line line-if line-scratch line-scratch-if
+listed m s scratch h = (rw (le-leb (length s) 65536 h), rw (le-leb (length s) 65536 h))
+
+-- "a longer input prints `too long`", and the scratch is as it was
+pub longer : (m : Manner) (s scratch : List ℕ) → 65536 < length s
+    → (line m s (length scratch) ≡ 116 ∷ 111 ∷ 111 ∷ 32 ∷ 108 ∷ 111 ∷ 110 ∷ 103 ∷ 10 ∷ []) × (line-scratch m s scratch ≡ scratch)
+unfolding line line-if line-scratch line-scratch-if too-long
+longer m s scratch h = (rw (lt-leb (length s) 65536 h), rw (lt-leb (length s) 65536 h))
 
 -- ---- the export length
 
@@ -44,13 +60,14 @@ refused-early s h = scratch-is-enough lenient s h
 
 -- ---- examples
 
--- numbers in decimal, and the line of "start,0"
+-- numbers in decimal, the line of "start,0", and those of files that are refused with 1 and with 2
 pub examples : T (
     same (decimal 0) (48 ∷ [])
     && same (decimal 10) (49 ∷ 48 ∷ [])
     && same (decimal 65536) (54 ∷ 53 ∷ 53 ∷ 51 ∷ 54 ∷ [])
     && same (line lenient (start ++ u0) 0) (48 ∷ 32 ∷ 48 ∷ 32 ∷ 48 ∷ 32 ∷ 48 ∷ 32 ∷ 48 ∷ 32 ∷ 48 ∷ 32 ∷ 48 ∷ 32 ∷ 48 ∷ 32 ∷ 48 ∷ 32 ∷ 55 ∷ 52 ∷ 10 ∷ [])
-    && same (line lenient start 0) (114 ∷ 101 ∷ 102 ∷ 117 ∷ 115 ∷ 101 ∷ 100 ∷ 32 ∷ 49 ∷ 10 ∷ []))
+    && same (line lenient start 0) (114 ∷ 101 ∷ 102 ∷ 117 ∷ 115 ∷ 101 ∷ 100 ∷ 32 ∷ 49 ∷ 10 ∷ [])
+    && same (line lenient (replicate 30 65) 0) (114 ∷ 101 ∷ 102 ∷ 117 ∷ 115 ∷ 101 ∷ 100 ∷ 32 ∷ 50 ∷ 10 ∷ []))
 unfolding computed file-length tens-if digits decimal spaced row too-long refused-line export-size numbers line-of line-if line
 examples = tt
 
