@@ -126,15 +126,20 @@ walk-leaves s (suc n) at h = go (leb (next-frame s at) (length s)) refl (walk-le
     go true e rest = let k = leb-true (next-frame s at) (length s) e in rw (next-reaches s at k) (rest (λ r. h (k, r)))
     go false e rest = rw (next-leaves s at (leb-false (next-frame s at) (length s) e))
 
--- so is a fetch with any opening and scratch
-pub fetch-leaves : (p : Extent) (scratch : List ℕ) (i : ℕ) (s : List ℕ) → (Reaches s (i % 16) (getD scratch (i / 16) 0) → ⊥)
+-- so is a fetch with any opening and scratch, of a frame and of each of its IK states
+place-leaves : (p : Extent) (scratch : List ℕ) (i : ℕ) (s : List ℕ) → (Reaches s (i % 16) (getD scratch (i / 16) 0) → ⊥)
     → property-place p scratch i s ≡ declined outside
 unfolding property-place and-then unless
-fetch-leaves p scratch i s h = rw (walk-leaves s (i % 16) (getD scratch (i / 16) 0) h) (go (ltb i (p .count) && ltb (i / 16) (length scratch)))
+place-leaves p scratch i s h = rw (walk-leaves s (i % 16) (getD scratch (i / 16) 0) h) (go (ltb i (p .count) && ltb (i / 16) (length scratch)))
   where
     go : (b : Bool) → _≡_ {A = Answer ℕ} (unless b outside (declined outside)) (declined outside)
     go true = refl
     go false = refl
+
+pub fetch-leaves : (p : Extent) (scratch : List ℕ) (i : ℕ) (s : List ℕ) → (Reaches s (i % 16) (getD scratch (i / 16) 0) → ⊥)
+    → (fetch-property p scratch i s ≡ declined outside) × ((j : ℕ) → fetch-ik-state p scratch i j s ≡ declined outside)
+unfolding fetch-property fetch-ik-state map-answer and-then
+fetch-leaves p scratch i s h = (rw (place-leaves p scratch i s h), λ j. rw (place-leaves p scratch i s h))
 
 unfoldable pub head-of : Property → PropertyHead
 head-of p = record { frame = p .frame; visible = p .visible; ik-count = length (p .ik-states) }

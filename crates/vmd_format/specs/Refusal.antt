@@ -6,7 +6,8 @@ pub data Refusal : Type 0 where
   file-ends-early : Refusal
   -- magic differs
   magic-differs : Refusal
-  -- scratch has fewer places than property frames; since 02 f), than a sixteenth of them, rounded up
+  -- scratch has fewer places than property frames; since 02 f), than a sixteenth of them, rounded up; 02 g): tidying, than the
+  -- largest section has records
   scratch-too-short : Refusal
   -- record or IK number at or above the count, or its place outside the file
   outside : Refusal

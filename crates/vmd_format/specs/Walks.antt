@@ -4,7 +4,7 @@ use Prim.Native.Nat.{ℕ, zero, suc}
 use mathlib.Core.Path.{_≡_, refl}
 use mathlib.Core.Bool.{Bool, true, false, _&&_}
 use mathlib.Core.List.{List, [], _∷_, _++_}
-use lib.ListN.{take}
+use lib.ListN.{take, drop}
 use lib.Dec.{T}
 use Rattle.vmd_format.specs.Answer.{Answer, declined, given}
 use Rattle.vmd_format.specs.Records.{IkState}
@@ -51,27 +51,38 @@ enough s n = is-given (open-file lenient s n)
 abbrev short : List ℕ → ℕ → Bool
 short s n = declines (open-file lenient s n) 3
 
--- "fewer than a sixteenth of the frames, rounded up": 0, 1, 16, 17, 32 and 33 frames
+-- "fewer than a sixteenth of the frames, rounded up": 0, 1, 16, 17, 32, 33 and 49 frames
 pub places-tested : T (
     enough (even 0 0) 0
     && short (odd 0 1) 0 && enough (odd 0 1) 1
     && short (even 8 16) 0 && enough (even 8 16) 1
     && short (odd 8 17) 1 && enough (odd 8 17) 2
     && short (even 16 32) 1 && enough (even 16 32) 2
-    && short (odd 16 33) 2 && enough (odd 16 33) 3)
+    && short (odd 16 33) 2 && enough (odd 16 33) 3
+    && short (odd 24 49) 3 && enough (odd 24 49) 4)
 unfolding computed
 places-tested = tt
 
--- places 0, 1 and 2 hold the positions of frames 0, 16 and 32, and further places keep their contents; a short scratch keeps all
+-- "1 and 2 as met, then 3": a file that is refused has its own number, also where the scratch is short
+pub places-last : T (
+    short (odd 8 17) 0
+    && declines (open-file lenient (take 394 (odd 8 17)) 0) 1 && declines (open-file lenient (take 394 (odd 8 17)) 1) 1
+    && declines (open-file lenient (87 ∷ drop 1 (odd 8 17)) 0) 2)
+unfolding computed
+places-last = tt
+
+-- places 0, 1, 2 and 3 hold the positions of frames 0, 16, 32 and 48, and further places keep their contents; a short scratch
+-- keeps all
 pub places-written :
-    (scratch-after lenient (odd 16 33) (7 ∷ 8 ∷ 9 ∷ 10 ∷ []) ≡ 74 ∷ 386 ∷ 698 ∷ 10 ∷ [])
+    (scratch-after lenient (odd 24 49) (7 ∷ 8 ∷ 9 ∷ 10 ∷ 11 ∷ []) ≡ 74 ∷ 386 ∷ 698 ∷ 1010 ∷ 11 ∷ [])
+    × (scratch-after lenient (odd 16 33) (7 ∷ 8 ∷ 9 ∷ 10 ∷ []) ≡ 74 ∷ 386 ∷ 698 ∷ 10 ∷ [])
     × (scratch-after lenient (odd 16 33) (7 ∷ 8 ∷ 9 ∷ []) ≡ 74 ∷ 386 ∷ 698 ∷ [])
     × (scratch-after lenient (even 16 32) (7 ∷ 8 ∷ 9 ∷ []) ≡ 74 ∷ 386 ∷ 9 ∷ [])
     × (scratch-after lenient (even 8 16) (7 ∷ 8 ∷ []) ≡ 74 ∷ 8 ∷ [])
     × (scratch-after lenient (even 0 0) (7 ∷ []) ≡ 7 ∷ [])
     × (scratch-after lenient (odd 8 17) (7 ∷ []) ≡ 7 ∷ [])
 unfolding computed
-places-written = (refl, refl, refl, refl, refl, refl)
+places-written = (refl, refl, refl, refl, refl, refl, refl)
 
 -- ---- fetches through the file's own scratch
 
