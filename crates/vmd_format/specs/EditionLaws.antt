@@ -1,5 +1,5 @@
--- Files of the older edition (02 e): how long a model name is, that all other files read as before, and that an older file reads
--- as its widened one.
+-- Files of the older edition (02 e): how long a model name is, that all other files read as before, and that an older file
+-- reads as its widened one.
 use Prim.Native.Nat.{ℕ, zero, suc, _+_, _*_, _-_, _≤_, _<_}
 use mathlib.Core.Path.{_≡_, refl, ap, sym, _∙_}
 use mathlib.Core.Bool.{Bool, true, false}
@@ -80,6 +80,15 @@ start-before false s = refused file-ends-early
 
 unfoldable pub header-before : Reader (List ℕ)
 header-before s = start-before (leb 30 (length s)) s
+
+-- "They were turned down with 2"
+pub turned-down-before : (s : List ℕ) → edition s ≡ given older → 30 ≤ length s → header-before s ≡ refused magic-differs
+unfolding edition edition-if header-before start-before magic-before
+turned-down-before s e h = rw (le-leb 30 (length s) h) (go (same (take 26 s) magic) (same (take 26 s) older-magic) e)
+  where
+    go : (x y : Bool) → edition-if x y ≡ given older → magic-before x s ≡ refused magic-differs
+    go true y q = let z : _≡_ {A = ℕ} 0 1 = cc in absurd (omega arith)
+    go false y q = refl
 
 -- every file that is not of the older edition reads as before, or is refused as before; what reads a file reads its header by
 -- this one, and then its sections
