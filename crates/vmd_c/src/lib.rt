@@ -1,5 +1,6 @@
-// The library for C, thin over the calls of vmd_reader, vmd_export, vmd_parts, vmd_split and vmd_season. include/vmd.h says how C calls it. Every
-// function states what it returns, and every slot and buffer at exit, by equations with definitions.
+// The library for C, thin over the calls of vmd_reader, vmd_export, vmd_names, vmd_parts, vmd_split, vmd_season and vmd_tidy.
+// include/vmd.h says how C calls it. Every function states what it returns, and every slot and buffer at exit, by equations
+// with definitions.
 use vmd_base::VmdPart;
 use vmd_base::VmdSection;
 use vmd_output::VmdWritten;
