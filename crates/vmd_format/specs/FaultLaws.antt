@@ -1,6 +1,6 @@
--- Stop at the first bad name byte: request d), "the test of one name's bytes leaves its loop at the first fault and returns its
--- place: that of the first byte, read left to right, that starts neither a good single byte nor a good pair, or the length where
--- all is good. Refusals and their order stay."
+-- Stop at the first bad name byte: request d), "the test of one name's bytes leaves its loop at the first fault and returns
+-- its place: that of the first byte, read left to right, that starts neither a good single byte nor a good pair, or the length
+-- where all is good. Refusals and their order stay."
 use Prim.Native.Nat.{ℕ, zero, suc, _+_, _≤_, _<_}
 use mathlib.Core.Path.{_≡_, refl, ap, sym, _∙_, subst}
 use mathlib.Core.Logic.{_↔_, _⊎_, inl, inr}

@@ -74,7 +74,8 @@ pub record Manner : Type 0 where
   pub oversized : Oversized
   pub over : BytesOver
 
--- "A camera, light or self-shadow count that exceeds the bytes left is accepted"; "Bytes after the last property frame are ignored."
+-- "A camera, light or self-shadow count that exceeds the bytes left is accepted"; "Bytes after the last property frame are
+-- ignored."
 unfoldable pub lenient : Manner
 lenient = record { oversized = emptied; over = ignored }
 

@@ -1,4 +1,5 @@
--- Property frames one after another: their bytes, the first and the others, where they end, and what a walk over them shows. Assumes nothing.
+-- Property frames one after another: their bytes, the first and the others, where they end, and what a walk over them shows.
+-- Assumes nothing.
 use Prim.Native.Nat.{ℕ, zero, suc, _+_, _-_, _*_, _≤_, _<_}
 use mathlib.Core.Path.{_≡_, refl, ap}
 use mathlib.Core.Bool.{Bool, true, false}

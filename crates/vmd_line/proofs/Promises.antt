@@ -1,5 +1,5 @@
--- Promises of the line: which one a file has, its last number is the length of the export, and 512 places of scratch are enough.
--- Assumes nothing.
+-- Promises of the line: which one a file has, its last number is the length of the export, and 512 places of scratch are
+-- enough. Assumes nothing.
 use Prim.Native.Nat.{ℕ, _≤_, _<_}
 use mathlib.Core.Path.{_≡_, refl, ap}
 use mathlib.Core.Bool.{_&&_}

@@ -51,8 +51,8 @@ fn holds_frame(file: &[u8], at: usize) -> bool
     VmdParsedPropertyFrame::SIZE <= file.len() - at
 }
 
-// Where the property frame at a place ends, with its IK states, and the next one stands; refused where not all of it lies in the
-// file.
+// Where the property frame at a place ends, with its IK states, and the next one stands; refused where not all of it lies in
+// the file.
 pub fn next_place(file: &[u8], at: usize) -> VmdPlace
     ensures { λ r. ⌜ place-answer r ≡ next-place (now (file .entry)) at ⌝ }
 {

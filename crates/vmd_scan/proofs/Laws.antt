@@ -1,4 +1,5 @@
--- Laws of scanning: its steps make the format's scan, turns of the loops over frames, and what callers know of a scan. Assumes nothing.
+-- Laws of scanning: its steps make the format's scan, turns of the loops over frames, and what callers know of a scan. Assumes
+-- nothing.
 use Prim.Native.Nat.{ℕ, zero, suc, _+_, _*_, _-_, _≤_, _<_, min}
 use mathlib.Core.Path.{_≡_, refl, sym, ap, _∙_}
 use mathlib.Core.Bool.{Bool, true, false}

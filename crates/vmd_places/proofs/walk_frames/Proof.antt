@@ -1,5 +1,5 @@
--- `vmd_places::walk_frames` meets its contract. The invariant: the walk over what is left, from here, is the whole walk. Assumes
--- nothing.
+-- `vmd_places::walk_frames` meets its contract. The invariant: the walk over what is left, from here, is the whole walk.
+-- Assumes nothing.
 use Prim.Native.Nat.{_-_, _≤_}
 use mathlib.Core.Path.{_≡_, sym, ap, _∙_}
 use native.Mathlib.Nat.{sub-zero}
