@@ -1,16 +1,17 @@
 -- A take tidied, computed from its bytes: another number in every record, and the refusals at their limits.
-use Prim.Native.Nat.{ℕ}
+use Prim.Native.Nat.{ℕ, zero, suc}
 use mathlib.Core.Path.{_≡_, refl}
 use mathlib.Core.Bool.{Bool, not, _&&_}
 use mathlib.Core.List.{List, [], _∷_, _++_}
 use lib.ListN.{replicate}
 use lib.Dec.{T}
-use Rattle.vmd_format.specs.Answer.{given, map-answer}
+use Rattle.vmd_format.specs.Refusal.{file-ends-early, scratch-too-short, output-too-short}
+use Rattle.vmd_format.specs.Answer.{declined, given, map-answer}
 use Rattle.vmd_format.specs.Read.{lenient}
-use Rattle.vmd_format.specs.Computed.{computed, declines, bytes-of, text, older-text, fours, u0, camera-bytes, light-bytes, shadow-bytes, ik-bytes}
+use Rattle.vmd_format.specs.Computed.{computed, declines, bytes-of, text, start, older-text, fours, u0, counting, one-each, camera-bytes, light-bytes, shadow-bytes, ik-bytes}
 use Rattle.vmd_keys.specs.Names.{keep-if, select, distinct}
 use Rattle.vmd_tracks.specs.Tracks.{put-if, put, put-all, lasts, track, lay, tidy-section, one-track, any, same-slot, dropped}
-use Rattle.vmd_tidy.specs.Tidied.{tidy-by, tidy, counts-of, dropped-by, largest-section, tidied-file, fitting, tidying, report, cleared}
+use Rattle.vmd_tidy.specs.Tidied.{tidy-by, tidy, Counts, counts-of, dropped-by, largest-section, tidied-file, fitting, tidying, Report, report, cleared, tidied-answer, tidied-output, tidied-scratch, size-answer, size-scratch}
 
 -- unfolding this and `computed` unfolds the definitions of tidying
 unfoldable tidy-computed : Unit {0}
@@ -100,7 +101,128 @@ pub largest-told :
 unfolding computed tidy-computed
 largest-told = (tt, tt, tt, tt, tt, tt)
 
+-- sections do not add up: with a record in each of the six, one place is enough, and all of them need it
+pub each-told :
+    let file = one-each (replicate 20 0) 1 2 3 4 5 6 in
+    T (declines (tidying lenient file 0 400) 3) × (cleared (9 ∷ 8 ∷ []) (tidying lenient file 2 336) ≡ 0 ∷ 8 ∷ [])
+unfolding computed tidy-computed
+each-told = (tt, refl)
+
 -- a take without records needs no scratch
 pub empty-told : bytes-of (map-answer tidied-file (tidying lenient (text ++ replicate 28 0) 0 74)) ≡ text ++ replicate 48 0
 unfolding computed tidy-computed
 empty-told = refl
+
+-- ---- frames and names as they are told apart
+
+-- three records of a section, alike but for their frames: what stands before the frame, and what after it
+abbrev three : List ℕ → List ℕ → List ℕ → List ℕ → List ℕ → List ℕ
+three front back a b c = fours (3 ∷ []) ++ front ++ a ++ back ++ front ++ b ++ back ++ front ++ c ++ back
+
+abbrev in-each : List ℕ → List ℕ → List ℕ → List ℕ
+in-each a b c =
+    three (65 ∷ replicate 14 0) (replicate 92 1) a b c ++ three (65 ∷ replicate 14 0) (replicate 4 1) a b c
+    ++ three [] (replicate 57 1) a b c ++ three [] (replicate 24 1) a b c ++ three [] (replicate 5 1) a b c
+    ++ three [] ((1 ∷ []) ++ u0) a b c
+
+-- by all their 32 bits, without a sign: frames 2^31, 2^31 - 1 and 2^16 of one track, in each section
+pub frames-told :
+    let high : List ℕ = 0 ∷ 0 ∷ 0 ∷ 128 ∷ [] in
+    let middle : List ℕ = 255 ∷ 255 ∷ 255 ∷ 127 ∷ [] in
+    let low : List ℕ = 0 ∷ 0 ∷ 1 ∷ 0 ∷ [] in
+    bytes-of (map-answer tidied-file (tidying lenient (start ++ in-each high middle low) 3 797)) ≡ start ++ in-each low middle high
+unfolding computed tidy-computed
+frames-told = refl
+
+-- names at one frame: 15 letters, the same but for the last, "A" and a line feed, "A", and none; n bytes after the frame
+abbrev named : ℕ → ℕ → List ℕ
+named v n =
+    let after : List ℕ = fours (1 ∷ []) ++ replicate n v in
+    counting 65 15 ++ after ++ counting 65 14 ++ (90 ∷ []) ++ after ++ (65 ∷ 10 ∷ replicate 13 0) ++ after ++ (65 ∷ replicate 14 0) ++ after ++ replicate 15 0 ++ after
+
+-- the whole name tells a track; a model name of 20 bytes is kept
+abbrev by-names : List ℕ → List ℕ → List ℕ
+by-names bones morphs = text ++ replicate 4 0 ++ counting 1 20 ++ bones ++ morphs
+
+abbrev named-twice : List ℕ
+named-twice = by-names (fours (10 ∷ []) ++ named 1 92 ++ named 2 92) (fours (10 ∷ []) ++ named 3 4 ++ named 4 4)
+
+pub names-told :
+    (bytes-of (map-answer tidied-file (tidying lenient named-twice 10 744))
+    ≡ by-names (fours (5 ∷ []) ++ named 2 92) (fours (5 ∷ []) ++ named 4 4) ++ replicate 16 0)
+    × (map-answer report (tidying lenient named-twice 10 744)
+    ≡ given (record {
+      bytes = 744;
+      kept = record { bones = 5; morphs = 5; cameras = 0; lights = 0; self-shadows = 0; properties = 0 };
+      dropped = record { bones = 5; morphs = 5; cameras = 0; lights = 0; self-shadows = 0; properties = 0 };
+    }))
+unfolding computed tidy-computed
+names-told = (refl, refl)
+
+-- n records at frames 1 to n
+abbrev rows : List ℕ → List ℕ → ℕ → List ℕ
+rows front back zero = []
+rows front back (suc n) = front ++ fours (suc n ∷ []) ++ back ++ rows front back n
+
+-- those of a section, three times
+abbrev thrice : List ℕ → List ℕ → ℕ → ℕ → List ℕ
+thrice front back n all = let r = rows front back n in fours (all ∷ []) ++ r ++ r ++ r
+
+-- other numbers in every section
+pub numbers-told :
+    map-answer report (tidying lenient (
+    start ++ thrice (65 ∷ replicate 14 0) (replicate 92 1) 1 3 ++ thrice (65 ∷ replicate 14 0) (replicate 4 1) 2 6
+    ++ thrice [] (replicate 57 1) 3 9 ++ thrice [] (replicate 24 1) 4 12 ++ thrice [] (replicate 5 1) 5 15 ++ thrice [] ((1 ∷ []) ++ u0) 6 18
+    ) 18 625)
+    ≡ given (record {
+      bytes = 625;
+      kept = record { bones = 1; morphs = 2; cameras = 3; lights = 4; self-shadows = 5; properties = 6 };
+      dropped = record { bones = 2; morphs = 4; cameras = 6; lights = 8; self-shadows = 10; properties = 12 };
+    })
+unfolding computed tidy-computed
+numbers-told = refl
+
+-- ---- what the calls answer and leave
+
+-- two self-shadows at one frame, the file without the first, and the answer
+abbrev two : List ℕ
+two = start ++ u0 ++ u0 ++ u0 ++ u0 ++ fours (2 ∷ []) ++ shadow-bytes 1 0 ++ shadow-bytes 1 2
+
+abbrev one : List ℕ
+one = start ++ u0 ++ u0 ++ u0 ++ u0 ++ fours (1 ∷ []) ++ shadow-bytes 1 2 ++ u0
+
+abbrev shadows : ℕ → Counts
+shadows n = record { bones = 0; morphs = 0; cameras = 0; lights = 0; self-shadows = n; properties = 0 }
+
+abbrev done : Report
+done = record { bytes = 83; kept = shadows 1; dropped = shadows 1 }
+
+-- the file stands at the front of the output, and the rest keeps its contents
+pub left-told :
+    (tidied-answer lenient two (7 ∷ 6 ∷ 5 ∷ []) (replicate 85 9) ≡ given done)
+    × (tidied-output lenient two (7 ∷ 6 ∷ 5 ∷ []) (replicate 85 9) ≡ one ++ (9 ∷ 9 ∷ []))
+    × (tidied-scratch lenient two (7 ∷ 6 ∷ 5 ∷ []) (replicate 85 9) ≡ 0 ∷ 0 ∷ 5 ∷ [])
+unfolding computed tidy-computed
+left-told = (refl, refl, refl)
+
+-- a place too few, a byte too few, and a file that is refused leave output and scratch as they were
+pub unchanged-told :
+    (tidied-answer lenient two (7 ∷ []) (replicate 85 9) ≡ declined scratch-too-short)
+    × (tidied-output lenient two (7 ∷ []) (replicate 85 9) ≡ replicate 85 9)
+    × (tidied-scratch lenient two (7 ∷ []) (replicate 85 9) ≡ 7 ∷ [])
+    × (tidied-answer lenient two (7 ∷ 6 ∷ 5 ∷ []) (replicate 82 9) ≡ declined output-too-short)
+    × (tidied-output lenient two (7 ∷ 6 ∷ 5 ∷ []) (replicate 82 9) ≡ replicate 82 9)
+    × (tidied-scratch lenient two (7 ∷ 6 ∷ 5 ∷ []) (replicate 82 9) ≡ 7 ∷ 6 ∷ 5 ∷ [])
+    × (tidied-answer lenient start (7 ∷ 6 ∷ 5 ∷ []) (replicate 85 9) ≡ declined file-ends-early)
+    × (tidied-output lenient start (7 ∷ 6 ∷ 5 ∷ []) (replicate 85 9) ≡ replicate 85 9)
+    × (tidied-scratch lenient start (7 ∷ 6 ∷ 5 ∷ []) (replicate 85 9) ≡ 7 ∷ 6 ∷ 5 ∷ [])
+unfolding computed tidy-computed
+unchanged-told = (refl, refl, refl, refl, refl, refl, refl, refl, refl)
+
+-- the size call, which is lent the scratch alone
+pub size-told :
+    (size-answer lenient two (7 ∷ 6 ∷ 5 ∷ []) ≡ given done) × (size-scratch lenient two (7 ∷ 6 ∷ 5 ∷ []) ≡ 0 ∷ 0 ∷ 5 ∷ [])
+    × (size-answer lenient two (7 ∷ []) ≡ declined scratch-too-short) × (size-scratch lenient two (7 ∷ []) ≡ 7 ∷ [])
+    × (size-answer lenient start (7 ∷ []) ≡ declined file-ends-early) × (size-scratch lenient start (7 ∷ []) ≡ 7 ∷ [])
+unfolding computed tidy-computed
+size-told = (refl, refl, refl, refl, refl, refl)

@@ -1,13 +1,15 @@
 -- The laws of tidying (02 g), of what the call answers and leaves in output and scratch, in every manner of reading.
-use Prim.Native.Nat.{ℕ, _+_, _≤_}
-use mathlib.Core.Path.{_≡_, ap, sym, _∙_}
+use Prim.Native.Nat.{ℕ, _+_, _≤_, _<_, max}
+use mathlib.Core.Path.{_≡_, refl, ap, sym, _∙_}
+use mathlib.Core.Bool.{Bool, true, false}
 use mathlib.Core.List.{List, [], _∷_, _++_}
-use borrow.Author.Tests.{le-leb}
+use borrow.Author.Tests.{le-leb, lt-leb, leb-true}
 use native.Mathlib.Omega.{arith}
 use lib.ListN.{length, drop}
+use lib.Dec.{leb}
 use lib.Seq.{take-append-seam}
 use Rattle.vmd_format.specs.Refusal.{scratch-too-short, output-too-short}
-use Rattle.vmd_format.specs.Answer.{Answer, given, and-then, map-answer, left, file-left}
+use Rattle.vmd_format.specs.Answer.{Answer, declined, given, and-then, map-answer, unless, left, file-left}
 use Rattle.vmd_format.specs.Read.{Manner}
 use Rattle.vmd_format.specs.Take.{Take, older, edition, read-take, write-take}
 use Rattle.vmd_format.specs.TakeLaws.{take-back}
@@ -18,9 +20,9 @@ use Rattle.vmd_format.specs.EditionLaws.{widened, take-widened}
 use Rattle.vmd_format.specs.RefusalLaws.{here, there, reading-numbers, Refuses, among-back, reading-refuses, refuses-more, refuses-then, refuses-unless}
 use Rattle.vmd_export.specs.Demand3.{joined, joined-is}
 use Rattle.vmd_export.specs.Demand3 as saving
-use Rattle.vmd_tidy.specs.Tidied.{tidy, whole-name, largest-section, tidied-file, fitting, tidying, report, tidied-answer, tidied-output, tidied-scratch, cleared}
+use Rattle.vmd_tidy.specs.Tidied.{tidy, whole-name, counts-of, largest-section, tidied-file, fitting, tidying, report, tidied-answer, tidied-output, tidied-scratch, cleared, longest, size-answer, size-scratch}
 use Rattle.vmd_tidy.specs.TidyLaws.{tidy-twice, tidy-join, tidy-well-formed, tidy-fit, Together, tidy-together, never-longer}
-use Rattle.vmd_tidy.specs.StageLaws.{fitting-given}
+use Rattle.vmd_tidy.specs.StageLaws.{fitting-over, fitting-given}
 
 -- ---- definitions
 
@@ -32,6 +34,16 @@ tidied m s scratch out = file-left (map-answer (λ r. r .bytes) (tidied-answer m
 pub record Enough (t : Take) (scratch out : List ℕ) : Type 0 where
   pub places : largest-section t ≤ length scratch
   pub room : length (tidied-file t) ≤ length out
+
+max-less : {a b c d : ℕ} → a ≤ c → b ≤ d → max a b ≤ max c d
+max-less h k = omega arith
+
+largest-less : (t : Take) → largest-section (tidy t) ≤ largest-section t
+unfolding largest-section tidy counts-of
+largest-less t =
+    let k = tidy-together whole-name t in
+    max-less (omega (arith, k .bones)) (max-less (omega (arith, k .morphs)) (max-less (omega (arith, k .cameras))
+    (max-less (omega (arith, k .lights)) (max-less (omega (arith, k .self-shadows)) (omega (arith, k .properties))))))
 
 -- ---- what the call leaves is the tidied take
 
@@ -51,6 +63,24 @@ module _ (m : Manner) where
   pub tidied-is : {s : List ℕ} {t : Take} (scratch out : List ℕ) → Accepted m s t → Enough t scratch out
       → tidied m s scratch out ≡ given (tidied-file t)
   tidied-is {s} scratch out h n = tidied-reads s scratch out (h .reads) n
+
+  -- and only a scratch and an output that are long enough have it tidied
+  pub enough-only : {s : List ℕ} {t : Take} (scratch out : List ℕ) → Accepted m s t → tidying m s (length scratch) (length out) ≡ given t → Enough t scratch out
+  unfolding tidying and-then fitting unless
+  enough-only {s} {t} scratch out h e =
+      go (leb (largest-section t) (length scratch)) refl (leb (length (tidied-file t)) (length out)) refl (rw (h .reads) at e)
+    where
+      go : (x : Bool) → leb (largest-section t) (length scratch) ≡ x → (y : Bool) → leb (length (tidied-file t)) (length out) ≡ y
+          → unless x scratch-too-short (unless y output-too-short (given t)) ≡ given t → Enough t scratch out
+      go true p true q e = record { places = leb-true _ _ p; room = leb-true _ _ q }
+      go true p false q e = let z : _≡_ {A = ℕ} 0 1 = cc in absurd (omega arith)
+      go false p y q e = let z : _≡_ {A = ℕ} 0 1 = cc in absurd (omega arith)
+
+  -- they are long enough for the tidied take too
+  pub enough-again : {t : Take} {scratch out : List ℕ} → Enough t scratch out → Enough (tidy t) scratch out
+  enough-again {t} {scratch} {out} n =
+      let e : tidied-file (tidy t) ≡ tidied-file t = (unfold tidied-file tidy in ap write-take (tidy-twice whole-name t)) in
+      record { places = omega (arith, largest-less t, n .places); room = rw e (n .room) }
 
   -- what is written is accepted and reads back as the tidied take
   pub tidied-back : {s : List ℕ} {t : Take} (scratch out : List ℕ) → Accepted m s t → Enough t scratch out
@@ -102,6 +132,19 @@ module _ (m : Manner) where
   pub scratch-cleared : {s : List ℕ} {t : Take} (scratch out : List ℕ) → Accepted m s t → Enough t scratch out
       → tidied-scratch m s scratch out ≡ cleared scratch (given t)
   scratch-cleared {s} scratch out h n = ap (cleared scratch) (tidying-is s scratch out (h .reads) n)
+
+  -- The size call answers the length and both numbers where the length has 64 bits, else 13; the scratch is left as above.
+  pub size-given : {s : List ℕ} {t : Take} (scratch : List ℕ) → Accepted m s t → largest-section t ≤ length scratch → length (tidied-file t) < 18446744073709551616
+      → (size-answer m s scratch ≡ given (report t)) × (size-scratch m s scratch ≡ cleared scratch (given t))
+  unfolding tidying and-then map-answer
+  size-given {s} {t} scratch h places room =
+      let e = fitting-given t (length scratch) longest places (le-leb (length (tidied-file t)) longest (omega arith)) in (rw (h .reads, e), rw (h .reads, e))
+
+  pub size-over : {s : List ℕ} {t : Take} (scratch : List ℕ) → Accepted m s t → largest-section t ≤ length scratch → 18446744073709551616 ≤ length (tidied-file t)
+      → (size-answer m s scratch ≡ declined output-too-short) × (size-scratch m s scratch ≡ scratch)
+  unfolding tidying and-then map-answer cleared
+  size-over {s} {t} scratch h places room =
+      let e = fitting-over t (length scratch) longest places (lt-leb (length (tidied-file t)) longest (omega arith)) in (rw (h .reads, e), rw (h .reads, e))
 
   -- an output of the export's length is never refused with 13
   pub export-enough : (t : Take) (scratch out : List ℕ) → largest-section t ≤ length scratch → length (write-take t) ≤ length out → Enough t scratch out
