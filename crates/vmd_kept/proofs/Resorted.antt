@@ -1,4 +1,5 @@
--- Places that are sorted by their keys, no two of one key, go back into file order: they are the last ones by key of what is left.
+-- Places that are sorted by their keys, no two of one key, go back into file order: they are the last ones by key of what is
+-- left.
 use Prim.Native.Nat.{ℕ, _<_}
 use mathlib.Core.Path.{_≡_, refl, ap, sym, _∙_}
 use mathlib.Core.Logic.{inl, inr}

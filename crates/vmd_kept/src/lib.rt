@@ -1,5 +1,5 @@
-// How many records of a section tidying keeps, counted with no lent memory: passes over its records, each of which finds the keys
-// above a floor, as many as fit in a local array of places. Internal: callers see to the lengths.
+// How many records of a section tidying keeps, counted with no lent memory: passes over its records, each of which finds the
+// keys above a floor, as many as fit in a local array of places. Internal: callers see to the lengths.
 use vmd_sort::VmdOrder;
 ghost use mathlib.Core.Path.{_≡_};
 ghost use mathlib.Core.List.{List, [], _∷_, _++_};
@@ -75,8 +75,8 @@ fn cut(a: &[u64], k: usize, ceil: u64) -> Held
     Held { m: k, ceil }
 }
 
-// The places are full: keeps the last of each key, of as many keys as may stay. They go back into file order, so that of one key
-// the later record stands later when more come.
+// The places are full: keeps the last of each key, of as many keys as may stay. They go back into file order, so that of one
+// key the later record stands later when more come.
 fn squeeze(a: &mut [u64], s: &[u8], order: VmdOrder, ceil: u64) -> Held
     requires { ⌜ (length (now a) ≡ 32768) × Rising (length (now s)) (now a) × ((x : ℕ) → rest order x ≡ x) ⌝ }
     ensures { λ r. ⌜ (r .m ≤ 16384) × ((floor p : ℕ) (l : List ℕ) → Holds (key order (now (s .entry))) floor ceil p (now (a .entry)) l → Holds (key order (now (s .entry))) floor (r .ceil) p (take (r .m) (now (a .exit))) l) ⌝ }
