@@ -1,6 +1,6 @@
 -- Laws of tidied takes, for every way of cutting names.
 use Prim.Native.Nat.{ℕ, _+_, _≤_, _<_, _^_}
-use mathlib.Core.Path.{_≡_}
+use mathlib.Core.Path.{_≡_, refl}
 use mathlib.Core.List.{List, [], _∷_}
 use native.Mathlib.Omega.{arith}
 use lib.ListN.{length}
@@ -12,9 +12,9 @@ use Rattle.vmd_format.specs.Opening.{ik-total}
 use Rattle.vmd_format.specs.Join.{join}
 use Rattle.vmd_format.specs.JoinLaws.{Fit}
 use Rattle.vmd_format.specs.Lengths.{export-length}
-use Rattle.vmd_tracks.specs.Tracks.{put, put-all, lasts, tidy-section, one-track}
-use Rattle.vmd_tracks.specs.TrackLaws.{Order, before, level, after, order, put-lt, put-eq, put-gt, tidy-section-twice, tidy-section-join, all-tidy, tidy-one}
-use Rattle.vmd_tracks.specs.DroppedLaws.{kept-and-dropped}
+use Rattle.vmd_tracks.specs.Tracks.{tidy-section, one-track}
+use Rattle.vmd_tracks.specs.TrackLaws.{tidy-section-twice, tidy-section-join, all-tidy}
+use Rattle.vmd_tracks.specs.DroppedLaws.{sum-over, made-up, kept-and-dropped}
 use Rattle.vmd_tidy.specs.Tidied.{tidy-by, tidy, Counts, counts-of, dropped-by, tidied-file}
 
 module _ (cut : List ℕ → List ℕ) where
@@ -81,42 +81,24 @@ module _ (cut : List ℕ → List ℕ) where
 
 -- ---- a tidied file is never longer than the export
 
-module _ (frame : Property → ℕ) where
-  put-states : (a : Property) (l : List Property) → ik-total (put frame a l) ≤ ik-total (a ∷ l)
-  put-states a [] = unfold put in omega arith
-  put-states a (b ∷ l) = go (order frame a b) (put-states a l)
-    where
-      go : Order frame a b → ik-total (put frame a l) ≤ ik-total (a ∷ l) → ik-total (put frame a (b ∷ l)) ≤ ik-total (a ∷ b ∷ l)
-      go (before q) k = rw (put-lt frame a b l q) (omega arith)
-      go (level q) k = rw (put-eq frame a b l q) (unfold ik-total in omega arith)
-      go (after q) k = rw (put-gt frame a b l q) (less k)
-        where
-          less : ik-total (put frame a l) ≤ ik-total (a ∷ l) → ik-total (b ∷ put frame a l) ≤ ik-total (a ∷ b ∷ l)
-          less k = unfold ik-total in omega arith
+states-sum : (l : List Property) → ik-total l ≡ sum-over (λ p. length (p .ik-states)) l
+unfolding ik-total sum-over
+states-sum [] = refl
+states-sum (p ∷ l) = rw (states-sum l)
 
-  put-all-states : (s l : List Property) → ik-total (put-all frame s l) ≤ ik-total s + ik-total l
-  unfolding put-all
-  put-all-states s [] = unfold ik-total in omega arith
-  put-all-states s (a ∷ l) = more (put-all-states (put frame a s) l) (put-states a s)
-    where
-      more : ik-total (put-all frame (put frame a s) l) ≤ ik-total (put frame a s) + ik-total l → ik-total (put frame a s) ≤ ik-total (a ∷ s)
-          → ik-total (put-all frame (put frame a s) l) ≤ ik-total s + ik-total (a ∷ l)
-      more x y = unfold ik-total in omega arith
-
-  pub lasts-states : (l : List Property) → ik-total (lasts frame l) ≤ ik-total l
-  unfolding lasts
-  lasts-states l = unfold ik-total in omega (arith, put-all-states [] l)
+fewer-states : (l : List Property) → ik-total (tidy-section one-track (λ p. p .frame) l) ≤ ik-total l
+fewer-states l =
+    let k = tidy-section one-track (λ p. p .frame) l in
+    omega (arith, states-sum k, states-sum l, made-up one-track (λ p. p .frame) (λ p. length (p .ik-states)) l)
 
 -- LAW: an output of the export's length can hold the tidied file
 pub never-longer : (t : Take) → length (tidied-file t) ≤ length (write-take t)
 unfolding tidied-file tidy tidy-by
 never-longer t =
-    let states : ik-total (tidy-section one-track (λ p. p .frame) (t .properties)) ≤ ik-total (t .properties) =
-    rw (tidy-one (λ p. p .frame) (t .properties)) (lasts-states (λ p. p .frame) (t .properties)) in
     let names = kept-and-dropped (λ b. b .name) (λ b. b .frame) (t .bones) in
     omega (
       arith,
-      states,
+      fewer-states (t .properties),
       names,
       export-length t,
       export-length (tidy t),

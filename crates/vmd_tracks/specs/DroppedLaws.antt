@@ -2,17 +2,17 @@
 use Prim.Native.Nat.{ℕ, suc, _+_}
 use mathlib.Core.Path.{_≡_, refl, ap, sym, _∙_}
 use mathlib.Core.Bool.{Bool, true, false, not, _&&_, _||_}
-use mathlib.Core.List.{List, [], _∷_, map}
+use mathlib.Core.List.{List, [], _∷_, _++_, map}
 use native.Mathlib.Omega.{arith}
 use borrow.Author.Tests.{eqb-true, eqb-false, not-true}
-use lib.ListN.{length, length-append}
+use lib.ListN.{length}
 use lib.Dec.{eqb}
 use Rattle.vmd_format.specs.ReadLaws.{All}
 use Rattle.vmd_format.specs.Take.{same}
 use Rattle.vmd_keys.specs.Names.{keep-if, select, distinct}
 use Rattle.vmd_count.specs.DistinctLaws.{same-refl, Names, equal, apart, names, all-select, select-passed}
 use Rattle.vmd_tracks.specs.Tracks.{put, put-all, lasts, track, lay, tidy-section, any, same-slot, dropped}
-use Rattle.vmd_tracks.specs.TrackLaws.{same-sym, Test, passed, failed, test, all-map, select-none, select-weaker, put-over, put-comm, put-past, all-put-all, put-lt, put-gt, Order, before, level, after, order}
+use Rattle.vmd_tracks.specs.TrackLaws.{same-sym, never, Test, passed, failed, test, all-map, select-none, select-weaker, put-over, put-comm, put-past, all-put-all, put-lt, put-gt, Order, before, level, after, order}
 
 module _ {A : Type 0} where
   any-none : (f : A → Bool) (l : List A) → any f l ≡ false → All (λ a. f a ≡ false) l
@@ -33,19 +33,54 @@ module _ {A : Type 0} where
       go true e = rw e
       go false e = e
 
-  select-split : (f : A → Bool) (l : List A) → length (select f l) + length (select (λ a. not (f a)) l) ≡ length l
-  unfolding select keep-if
-  select-split f [] = refl
-  select-split f (a ∷ l) = go (f a) (select-split f l)
-    where
-      go : (x : Bool) → length (select f l) + length (select (λ a. not (f a)) l) ≡ length l
-          → length (keep-if x a (select f l)) + length (keep-if (not x) a (select (λ a. not (f a)) l)) ≡ suc (length l)
-      go true e = omega arith
-      go false e = omega arith
-
   pub all-both : (P Q R : A → Type 0) (l : List A) → ((a : A) → P a → Q a → R a) → All P l → All Q l → All R l
   all-both P Q R [] f h k = tt
   all-both P Q R (a ∷ l) f h k = (f a (h .0) (k .0), all-both P Q R l f (h .1) (k .1))
+
+-- what passes a test counts for one
+unfoldable one-if : Bool → ℕ
+one-if true = 1
+one-if false = 0
+
+-- what each of a list counts for, added up
+unfoldable pub sum-over : {A : Type 0} → (A → ℕ) → List A → ℕ
+sum-over f [] = 0
+sum-over f (a ∷ l) = f a + sum-over f l
+
+module _ {A : Type 0} where
+  sum-add : (f g h : A → ℕ) (l : List A) → ((a : A) → f a + g a ≡ h a) → sum-over f l + sum-over g l ≡ sum-over h l
+  unfolding sum-over
+  sum-add f g h [] e = refl
+  sum-add f g h (a ∷ l) e = omega (arith, e a, sum-add f g h l e)
+
+  sum-append : (f : A → ℕ) (l m : List A) → sum-over f (l ++ m) ≡ sum-over f l + sum-over f m
+  unfolding sum-over
+  sum-append f [] m = omega arith
+  sum-append f (a ∷ l) m = omega (arith, sum-append f l m)
+
+  sum-length : (l : List A) → sum-over (λ a. 1) l ≡ length l
+  unfolding sum-over
+  sum-length [] = refl
+  sum-length (a ∷ l) = omega (arith, sum-length l)
+
+  sum-split : (w : A → ℕ) (f : A → Bool) (l : List A) → sum-over w (select f l) + sum-over w (select (λ a. not (f a)) l) ≡ sum-over w l
+  unfolding select keep-if sum-over
+  sum-split w f [] = refl
+  sum-split w f (a ∷ l) = go (f a) (sum-split w f l)
+    where
+      go : (x : Bool) → sum-over w (select f l) + sum-over w (select (λ a. not (f a)) l) ≡ sum-over w l
+          → sum-over w (keep-if x a (select f l)) + sum-over w (keep-if (not x) a (select (λ a. not (f a)) l)) ≡ w a + sum-over w l
+      go true e = unfold sum-over in omega arith
+      go false e = unfold sum-over in omega arith
+
+  sum-passed : (f : A → Bool) (l : List A) → sum-over (λ a. one-if (f a)) l ≡ length (select f l)
+  unfolding select keep-if sum-over one-if
+  sum-passed f [] = refl
+  sum-passed f (a ∷ l) = go (f a) (sum-passed f l)
+    where
+      go : (x : Bool) → sum-over (λ a. one-if (f a)) l ≡ length (select f l) → one-if x + sum-over (λ a. one-if (f a)) l ≡ length (keep-if x a (select f l))
+      go true e = omega arith
+      go false e = omega arith
 
 pub known-past : (k : List ℕ) (ks : List (List ℕ)) (n : List ℕ) → same k n ≡ false → any (λ k. same k n) (k ∷ ks) ≡ any (λ k. same k n) ks
 unfolding any
@@ -69,26 +104,31 @@ module _ {A : Type 0} (frame : A → ℕ) where
       go (passed p) h = rw (put-over frame b a s (sym (eqb-true _ _ p)))
       go (failed p) h = rw (← put-comm frame a b s (eqb-false _ _ p)) (h (rw p at e))
 
-  put-fresh : (a : A) (l : List A) → All (λ b. ¬ (frame a ≡ frame b)) l → length (put frame a l) ≡ suc (length l)
-  put-fresh a [] h = unfold put in refl
-  put-fresh a (b ∷ l) h = go (order frame a b) (put-fresh a l (h .1))
+  put-fresh : (w : A → ℕ) (a : A) (l : List A) → All (λ b. ¬ (frame a ≡ frame b)) l → sum-over w (put frame a l) ≡ w a + sum-over w l
+  unfolding sum-over
+  put-fresh w a [] h = unfold put in refl
+  put-fresh w a (b ∷ l) h = go (order frame a b) (put-fresh w a l (h .1))
     where
-      go : Order frame a b → length (put frame a l) ≡ suc (length l) → length (put frame a (b ∷ l)) ≡ suc (suc (length l))
+      go : Order frame a b → sum-over w (put frame a l) ≡ w a + sum-over w l → sum-over w (put frame a (b ∷ l)) ≡ w a + (w b + sum-over w l)
       go (before q) e = rw (put-lt frame a b l q)
       go (level q) e = absurd (h .0 q)
-      go (after q) e = rw (put-gt frame a b l q) (ap suc e)
+      go (after q) e = rw (put-gt frame a b l q) (unfold sum-over in omega arith)
 
-  pub lasts-lost : (l : List A) → length (lasts frame l) + length (lost l) ≡ length l
-  unfolding lasts lost keep-if put-all
-  lasts-lost [] = refl
-  lasts-lost (a ∷ l) = go (any (λ b. eqb (frame a) (frame b)) l) refl (lasts-lost l)
+  -- what is kept of a track and what is lost make up the track
+  lasts-made-up : (w : A → ℕ) (l : List A) → sum-over w (lasts frame l) + sum-over w (lost l) ≡ sum-over w l
+  unfolding lasts lost keep-if put-all sum-over
+  lasts-made-up w [] = refl
+  lasts-made-up w (a ∷ l) = go (any (λ b. eqb (frame a) (frame b)) l) refl (lasts-made-up w l)
     where
-      go : (x : Bool) → any (λ b. eqb (frame a) (frame b)) l ≡ x → length (put-all frame [] l) + length (lost l) ≡ length l
-          → length (put-all frame (put frame a []) l) + length (keep-if x a (lost l)) ≡ suc (length l)
-      go true p e = rw (put-lost a [] l p) (omega arith)
+      go : (x : Bool) → any (λ b. eqb (frame a) (frame b)) l ≡ x → sum-over w (put-all frame [] l) + sum-over w (lost l) ≡ sum-over w l
+          → sum-over w (put-all frame (put frame a []) l) + sum-over w (keep-if x a (lost l)) ≡ w a + sum-over w l
+      go true p e = rw (put-lost a [] l p) (unfold sum-over in omega arith)
       go false p e =
           let d : All (λ b. ¬ (frame a ≡ frame b)) l = all-map _ _ l (λ b (q : eqb (frame a) (frame b) ≡ false). eqb-false _ _ q) (any-none _ l p) in
-          rw (put-past frame a [] l d, put-fresh a (put-all frame [] l) (all-put-all frame _ [] l tt d)) (omega arith)
+          rw (put-past frame a [] l d, put-fresh w a (put-all frame [] l) (all-put-all frame _ [] l tt d)) (omega arith)
+
+  pub lasts-lost : (l : List A) → length (lasts frame l) + length (lost l) ≡ length l
+  lasts-lost l = rw (← sum-length (lasts frame l), ← sum-length (lost l), ← sum-length l) (lasts-made-up (λ a. 1) l)
 
   -- those without a later record of the same frame
   pub stays : List A → List A
@@ -121,16 +161,7 @@ module _ {A : Type 0} (frame : A → ℕ) where
   unfolding lasts
   lasts-stays l = (put-stays [] l, let a = lasts-lost l in let b = stays-lost l in unfold lasts in omega arith)
 
--- sums over names
-unfoldable pub sum-over : (List ℕ → ℕ) → List (List ℕ) → ℕ
-sum-over f [] = 0
-sum-over f (n ∷ ns) = f n + sum-over f ns
-
-sum-add : (f g h : List ℕ → ℕ) (ns : List (List ℕ)) → ((n : List ℕ) → f n + g n ≡ h n) → sum-over f ns + sum-over g ns ≡ sum-over h ns
-unfolding sum-over
-sum-add f g h [] e = refl
-sum-add f g h (n ∷ ns) e = omega (arith, e n, sum-add f g h ns e)
-
+-- sections
 module _ {A : Type 0} (key : A → List ℕ) (frame : A → ℕ) where
   abbrev pub without : List ℕ → List A → List A
   without k l = select (λ a. not (same k (key a))) l
@@ -151,16 +182,16 @@ module _ {A : Type 0} (key : A → List ℕ) (frame : A → ℕ) where
   track-gone n l = select-none (λ a. same n (key a)) (without n l)
       (all-map _ _ (without n l) (λ a (h : not (same n (key a)) ≡ true). not-true _ h) (select-passed (λ a. not (same n (key a))) l))
 
-  sum-without : (k : List ℕ) (l : List A) (ns : List (List ℕ))
-      → sum-over (λ n. length (track key n l)) (select (λ n. not (same k n)) ns) ≡ sum-over (λ n. length (track key n (without k l))) ns
+  sum-without : (w : A → ℕ) (k : List ℕ) (l : List A) (ns : List (List ℕ))
+      → sum-over (λ n. sum-over w (track key n l)) (select (λ n. not (same k n)) ns) ≡ sum-over (λ n. sum-over w (track key n (without k l))) ns
   unfolding select keep-if sum-over
-  sum-without k l [] = refl
-  sum-without k l (n ∷ ns) = go (names k n) (sum-without k l ns)
+  sum-without w k l [] = refl
+  sum-without w k l (n ∷ ns) = go (names k n) (sum-without w k l ns)
     where
-      go : Names k n → sum-over (λ n. length (track key n l)) (select (λ n. not (same k n)) ns) ≡ sum-over (λ n. length (track key n (without k l))) ns
-          → sum-over (λ n. length (track key n l)) (keep-if (not (same k n)) n (select (λ n. not (same k n)) ns))
-          ≡ length (track key n (without k l)) + sum-over (λ n. length (track key n (without k l))) ns
-      go (equal p x y) e = rw (x, e, ← p, track-gone k l) (omega arith)
+      go : Names k n → sum-over (λ n. sum-over w (track key n l)) (select (λ n. not (same k n)) ns) ≡ sum-over (λ n. sum-over w (track key n (without k l))) ns
+          → sum-over (λ n. sum-over w (track key n l)) (keep-if (not (same k n)) n (select (λ n. not (same k n)) ns))
+          ≡ sum-over w (track key n (without k l)) + sum-over (λ n. sum-over w (track key n (without k l))) ns
+      go (equal p x y) e = rw (x, e, ← p, track-gone k l) (unfold sum-over in omega arith)
       go (apart x y) e = rw (x, e, track-without k n l x)
 
   known-without : (k : List ℕ) (ks : List (List ℕ)) (l : List A) → All (Known (k ∷ ks)) l → All (Known ks) (without k l)
@@ -172,13 +203,13 @@ module _ {A : Type 0} (key : A → List ℕ) (frame : A → ℕ) where
       go a (apart x y) h e = rw (← known-past k ks (key a) x) h
 
   -- the tracks make up the records
-  tracks-sum : (ks : List (List ℕ)) (l : List A) → All (Known ks) l → sum-over (λ n. length (track key n l)) (distinct ks) ≡ length l
+  tracks-sum : (w : A → ℕ) (ks : List (List ℕ)) (l : List A) → All (Known ks) l → sum-over (λ n. sum-over w (track key n l)) (distinct ks) ≡ sum-over w l
   unfolding distinct sum-over
-  tracks-sum [] [] h = refl
-  tracks-sum [] (a ∷ l) h = let e : _≡_ {A = Bool} false true = unfold any in h .0 in let z : _≡_ {A = ℕ} 0 1 = cc in absurd (omega arith)
-  tracks-sum (k ∷ ks) l h =
-      rw (sum-without k l (distinct ks), tracks-sum ks (without k l) (known-without k ks l h))
-      (unfold track in select-split (λ a. same k (key a)) l)
+  tracks-sum w [] [] h = refl
+  tracks-sum w [] (a ∷ l) h = never (unfold any in h .0)
+  tracks-sum w (k ∷ ks) l h =
+      rw (sum-without w k l (distinct ks), tracks-sum w ks (without k l) (known-without k ks l h))
+      (unfold track in sum-split w (λ a. same k (key a)) l)
 
   known-more : (k : List ℕ) (ks : List (List ℕ)) (a : A) → Known ks a → Known (k ∷ ks) a
   unfolding any
@@ -221,24 +252,35 @@ module _ {A : Type 0} (key : A → List ℕ) (frame : A → ℕ) where
       go (apart x y) true q e = rw x e
       go (apart x y) false q e = rw x e
 
-  lay-length : (l : List A) (ns : List (List ℕ)) → length (lay key frame l ns) ≡ sum-over (λ n. length (lasts frame (track key n l))) ns
+  lay-sum : (w : A → ℕ) (l : List A) (ns : List (List ℕ)) → sum-over w (lay key frame l ns) ≡ sum-over (λ n. sum-over w (lasts frame (track key n l))) ns
   unfolding lay sum-over
-  lay-length l [] = refl
-  lay-length l (n ∷ ns) = rw (length-append (lasts frame (track key n l)) (lay key frame l ns), lay-length l ns)
+  lay-sum w l [] = refl
+  lay-sum w l (n ∷ ns) = rw (sum-append w (lasts frame (track key n l)) (lay key frame l ns), lay-sum w l ns)
 
-  -- LAW: kept and dropped together make up the records read
-  pub kept-and-dropped : (l : List A) → length (tidy-section key frame l) + length (dropped key frame l) ≡ length l
+  -- LAW: whatever each record counts for, kept and dropped together make up the records read
+  pub made-up : (w : A → ℕ) (l : List A) → sum-over w (tidy-section key frame l) + sum-over w (dropped key frame l) ≡ sum-over w l
   unfolding tidy-section
-  kept-and-dropped l =
+  made-up w l =
       let ns = distinct (map key l) in
       let d = dropped key frame l in
       rw (
-        lay-length l ns,
-        ← tracks-sum (map key l) d (all-dropped _ l (keys-known l)),
-        sum-add (λ n. length (lasts frame (track key n l))) (λ n. length (track key n d)) (λ n. length (track key n l)) ns
-            (λ n. rw (track-dropped n l) (lasts-lost frame (track key n l))),
+        lay-sum w l ns,
+        ← tracks-sum w (map key l) d (all-dropped _ l (keys-known l)),
+        sum-add (λ n. sum-over w (lasts frame (track key n l))) (λ n. sum-over w (track key n d)) (λ n. sum-over w (track key n l)) ns
+            (λ n. rw (track-dropped n l) (lasts-made-up frame w (track key n l))),
       )
-      (tracks-sum (map key l) l (keys-known l))
+      (tracks-sum w (map key l) l (keys-known l))
+
+  -- LAW: so do those of them that pass any test: each record read is kept or dropped, and none is both
+  pub kept-or-dropped : (f : A → Bool) (l : List A)
+      → length (select f (tidy-section key frame l)) + length (select f (dropped key frame l)) ≡ length (select f l)
+  kept-or-dropped f l =
+      rw (← sum-passed f (tidy-section key frame l), ← sum-passed f (dropped key frame l), ← sum-passed f l) (made-up (λ a. one-if (f a)) l)
+
+  -- LAW: and their numbers
+  pub kept-and-dropped : (l : List A) → length (tidy-section key frame l) + length (dropped key frame l) ≡ length l
+  kept-and-dropped l =
+      rw (← sum-length (tidy-section key frame l), ← sum-length (dropped key frame l), ← sum-length l) (made-up (λ a. 1) l)
 
 -- LAW: as many are kept by any number that tells tracks and frames apart
 module _ {A : Type 0} (key : A → List ℕ) (frame f : A → ℕ) (P : A → Type 0) (tells : (a b : A) → P a → P b → eqb (f a) (f b) ≡ same-slot key frame a b) where
