@@ -1,5 +1,5 @@
 -- The laws of tidying (02 g), of what the call answers and leaves in output and scratch, in every manner of reading.
-use Prim.Native.Nat.{ℕ, _+_, _≤_, _<_, max}
+use Prim.Native.Nat.{ℕ, _+_, _/_, _≤_, _<_, max}
 use mathlib.Core.Path.{_≡_, refl, ap, sym, _∙_}
 use mathlib.Core.Bool.{Bool, true, false}
 use mathlib.Core.List.{List, [], _∷_, _++_}
@@ -13,6 +13,10 @@ use Rattle.vmd_format.specs.Answer.{Answer, declined, given, and-then, map-answ
 use Rattle.vmd_format.specs.Read.{Manner}
 use Rattle.vmd_format.specs.Take.{Take, older, edition, read-take, write-take}
 use Rattle.vmd_format.specs.TakeLaws.{take-back}
+use Rattle.vmd_format.specs.Opening.{Scan}
+use Rattle.vmd_format.specs.Places.{scan-file}
+use Rattle.vmd_format.specs.ScanLaws.{Inside}
+use Rattle.vmd_format.specs.ExportLaws.{take-in, take-by-places, scan-scanned}
 use Rattle.vmd_format.specs.Join.{join}
 use Rattle.vmd_format.specs.JoinLaws.{Fit, join-well-formed}
 use Rattle.vmd_format.specs.SavingLaws.{Accepted, Reads, well-formed, written-accepted}
@@ -22,7 +26,8 @@ use Rattle.vmd_export.specs.Demand3.{joined, joined-is}
 use Rattle.vmd_export.specs.Demand3 as saving
 use Rattle.vmd_tidy.specs.Tidied.{tidy, whole-name, counts-of, largest-section, tidied-file, fitting, tidying, report, tidied-answer, tidied-output, tidied-scratch, cleared, longest, size-answer, size-scratch}
 use Rattle.vmd_tidy.specs.TidyLaws.{tidy-twice, tidy-join, tidy-well-formed, tidy-fit, Together, tidy-together, never-longer}
-use Rattle.vmd_tidy.specs.StageLaws.{fitting-over, fitting-given}
+use Rattle.vmd_tidy.specs.Stages.{largest-count}
+use Rattle.vmd_tidy.specs.StageLaws.{largest-is, fitting-over, fitting-given}
 
 -- ---- definitions
 
@@ -44,6 +49,15 @@ largest-less t =
     let k = tidy-together whole-name t in
     max-less (omega (arith, k .bones)) (max-less (omega (arith, k .morphs)) (max-less (omega (arith, k .cameras))
     (max-less (omega (arith, k .lights)) (max-less (omega (arith, k .self-shadows)) (omega (arith, k .properties))))))
+
+max-least : {a b n : ℕ} → a ≤ n → b ≤ n → max a b ≤ n
+max-least h k = omega arith
+
+ninth-count : (s : List ℕ) (x : Scan) → Inside s x → largest-count x ≤ length s / 9
+unfolding largest-count
+ninth-count s x h =
+    max-least (omega (arith, h .bones .ends)) (max-least (omega (arith, h .morphs .ends)) (max-least (omega (arith, h .cameras .ends))
+    (max-least (omega (arith, h .lights .ends)) (max-least (omega (arith, h .self-shadows .ends)) (omega (arith, h .properties .ends))))))
 
 -- ---- what the call leaves is the tidied take
 
@@ -81,6 +95,18 @@ module _ (m : Manner) where
   enough-again {t} {scratch} {out} n =
       let e : tidied-file (tidy t) ≡ tidied-file t = (unfold tidied-file tidy in ap write-take (tidy-twice whole-name t)) in
       record { places = omega (arith, largest-less t, n .places); room = rw e (n .room) }
+
+  -- as many places as a ninth of the file's bytes are enough, since a record has at least nine
+  pub ninth-enough : {s : List ℕ} {t : Take} → Accepted m s t → largest-section t ≤ length s / 9
+  unfolding map-answer
+  ninth-enough {s} {t} h = go (scan-file m s) refl (sym (take-by-places m s) ∙ h .reads)
+    where
+      go : (y : Answer Scan) → scan-file m s ≡ y → map-answer (take-in s) y ≡ given t → largest-section t ≤ length s / 9
+      go (declined k) p e = let z : _≡_ {A = ℕ} 0 1 = cc in absurd (omega arith)
+      go (given x) p e =
+          let q : take-in s x ≡ t = cc in
+          let y = scan-scanned m s x p in
+          rw (← q, largest-is s x y) (ninth-count s x (y .inside))
 
   -- what is written is accepted and reads back as the tidied take
   pub tidied-back : {s : List ℕ} {t : Take} (scratch out : List ℕ) → Accepted m s t → Enough t scratch out
