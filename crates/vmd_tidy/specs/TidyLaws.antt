@@ -15,7 +15,7 @@ use Rattle.vmd_format.specs.Lengths.{export-length}
 use Rattle.vmd_tracks.specs.Tracks.{tidy-section, one-track}
 use Rattle.vmd_tracks.specs.TrackLaws.{tidy-section-twice, tidy-section-join, all-tidy}
 use Rattle.vmd_tracks.specs.DroppedLaws.{sum-over, made-up, kept-and-dropped}
-use Rattle.vmd_tidy.specs.Tidied.{tidy-by, tidy, Counts, counts-of, dropped-by, tidied-file}
+use Rattle.vmd_tidy.specs.Tidied.{tidy-by, whole-name, tidy, Counts, counts-of, dropped-by, tidied-file}
 
 module _ (cut : List ℕ → List ℕ) where
   -- LAW: tidying twice is tidying once
@@ -91,20 +91,15 @@ fewer-states l =
     let k = tidy-section one-track (λ p. p .frame) l in
     omega (arith, states-sum k, states-sum l, made-up one-track (λ p. p .frame) (λ p. length (p .ik-states)) l)
 
+-- LAW: a tidied take is not written longer, for every way of cutting names
+pub never-longer-by : (cut : List ℕ → List ℕ) (t : Take) → length (write-take (tidy-by cut t)) ≤ length (write-take t)
+unfolding counts-of
+never-longer-by cut t =
+    let k = tidy-together cut t in
+    let states : ik-total (tidy-by cut t .properties) ≤ ik-total (t .properties) = (unfold tidy-by in fewer-states (t .properties)) in
+    omega (arith, states, export-length t, export-length (tidy-by cut t), k .bones, k .morphs, k .cameras, k .lights, k .self-shadows, k .properties)
+
 -- LAW: an output of the export's length can hold the tidied file
 pub never-longer : (t : Take) → length (tidied-file t) ≤ length (write-take t)
-unfolding tidied-file tidy tidy-by
-never-longer t =
-    let names = kept-and-dropped (λ b. b .name) (λ b. b .frame) (t .bones) in
-    omega (
-      arith,
-      fewer-states (t .properties),
-      names,
-      export-length t,
-      export-length (tidy t),
-      kept-and-dropped (λ m. m .name) (λ m. m .frame) (t .morphs),
-      kept-and-dropped one-track (λ c. c .frame) (t .cameras),
-      kept-and-dropped one-track (λ l. l .frame) (t .lights),
-      kept-and-dropped one-track (λ s. s .frame) (t .self-shadows),
-      kept-and-dropped one-track (λ p. p .frame) (t .properties),
-    )
+unfolding tidied-file tidy
+never-longer t = never-longer-by whole-name t

@@ -160,10 +160,10 @@ module _ (m : Manner) where
   scratch-cleared {s} scratch out h n = ap (cleared scratch) (tidying-is s scratch out (h .reads) n)
 
   -- The size call answers the length and both numbers where the length has 64 bits, else 13; the scratch is left as above.
-  pub size-given : {s : List ℕ} {t : Take} (scratch : List ℕ) → Accepted m s t → largest-section t ≤ length scratch → length (tidied-file t) < 18446744073709551616
+  pub size-fits : {s : List ℕ} {t : Take} (scratch : List ℕ) → Accepted m s t → largest-section t ≤ length scratch → length (tidied-file t) < 18446744073709551616
       → (size-answer m s scratch ≡ given (report t)) × (size-scratch m s scratch ≡ cleared scratch (given t))
   unfolding tidying and-then map-answer
-  size-given {s} {t} scratch h places room =
+  size-fits {s} {t} scratch h places room =
       let e = fitting-given t (length scratch) longest places (le-leb (length (tidied-file t)) longest (omega arith)) in (rw (h .reads, e), rw (h .reads, e))
 
   pub size-over : {s : List ℕ} {t : Take} (scratch : List ℕ) → Accepted m s t → largest-section t ≤ length scratch → 18446744073709551616 ≤ length (tidied-file t)
