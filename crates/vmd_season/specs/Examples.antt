@@ -7,10 +7,10 @@ use mathlib.Core.List.{List, [], _∷_, _++_}
 use lib.ListN.{getD, replicate}
 use lib.Dec.{T, eqb}
 use Rattle.vmd_format.specs.Read.{lenient}
-use Rattle.vmd_format.specs.Computed.{computed, text, older-text, start, fours, u0, u1, bone-bytes, morph-bytes, camera-bytes, light-bytes, shadow-bytes, ik-bytes}
+use Rattle.vmd_format.specs.Computed.{computed, text, older-text, start, fours, u0, u1, bone-bytes, morph-bytes, camera-bytes, light-bytes, shadow-bytes, ik-bytes, morph-said, light-said, shadow-said, ik-said}
 use Rattle.vmd_keys.specs.Names.{bone-names-of, morph-names-of, keep-if, select, distinct}
 use Rattle.vmd_season.specs.Season.{SectionFigures, Season, no-section-figures, no-takes, TakeFigures, figures-of, records-of, largest-figure, totals-fit, take-fits, with-count, with-take, with-refused, taken-if, with-answer, with-file, season-from, season, mean-if, mean}
-use Rattle.vmd_season.specs.Differ.{names, names-and-interpolation, SameName, SameRecords, SameFrames, SameSections, all-stretches, DifferOnly, DifferEach}
+use Rattle.vmd_season.specs.Differ.{names, names-and-interpolation, SameName, SameRecords, SameFrames, SameSections, all-stretches, DifferOnly, DifferEach, bone-without, camera-without, without-interpolation}
 use Rattle.vmd_season.specs.DifferLaws.{name-self, differ-self}
 
 -- unfolding this and `computed` unfolds the definitions of the figures
@@ -53,6 +53,16 @@ pub season-told :
 unfolding computed figures-computed
 season-told = refl
 
+-- "No takes gives zeros throughout", and with none accepted all is 0 but the number of refused takes
+abbrev zeros : ℕ → Season
+zeros n =
+    let none : SectionFigures = record { total = 0; smallest = 0; largest = 0 } in
+    record { bones = none; morphs = none; cameras = none; lights = none; self-shadows = none; properties = none; records = 0; bone-names = 0; morph-names = 0; accepted = 0; refused = n }
+
+pub none-told : (season lenient [] ≡ zeros 0) × (season lenient (start ∷ start ∷ []) ≡ zeros 2)
+unfolding computed figures-computed
+none-told = (refl, refl)
+
 -- the mean is over accepted takes alone
 pub mean-told :
     (mean (season lenient (first ∷ start ∷ second ∷ [])) ≡ record { quotient = 13; remainder = 0 })
@@ -68,10 +78,10 @@ abbrev where-same : Bool → ℕ → ℕ
 where-same true n = n
 where-same false n = 0
 
--- figure i of the ten that must not pass 64 bits is n, and the others are 0; every smallest and largest is 2
+-- figure i of the ten that must not pass 64 bits is n, and the others are 0; every smallest is 4 and every largest 6
 abbrev at-figure : ℕ → ℕ → Season
 at-figure i n =
-    let section : ℕ → SectionFigures = λ j. record { total = where-same (eqb i j) n; smallest = 2; largest = 2 } in record {
+    let section : ℕ → SectionFigures = λ j. record { total = where-same (eqb i j) n; smallest = 4; largest = 6 } in record {
       bones = section 0;
       morphs = section 1;
       cameras = section 2;
@@ -108,12 +118,21 @@ pub stops-told : with-refused (at-figure 0 5) ≡ at-figure 0 5
 unfolding figures-computed
 stops-told = refl
 
--- with none accepted the first take sets smallest and largest, whatever stood there; with some it does not
+-- with none accepted the first take sets smallest and largest, whatever stood there: below both, between them, above both
 pub first-told :
     (with-take (at-figure 0 5) some .bones ≡ record { total = 8; smallest = 3; largest = 3 })
-    × (with-take (at-figure 9 5) some .bones ≡ record { total = 3; smallest = 2; largest = 3 })
+    × (with-take (at-figure 2 5) some .cameras ≡ record { total = 10; smallest = 5; largest = 5 })
+    × (with-take (at-figure 4 5) some .self-shadows ≡ record { total = 12; smallest = 7; largest = 7 })
 unfolding figures-computed
-first-told = (refl, refl)
+first-told = (refl, refl, refl)
+
+-- with some accepted a smaller count and a larger one do, and no other
+pub later-told :
+    (with-take (at-figure 9 5) some .bones ≡ record { total = 3; smallest = 3; largest = 6 })
+    × (with-take (at-figure 9 5) some .cameras ≡ record { total = 5; smallest = 4; largest = 6 })
+    × (with-take (at-figure 9 5) some .self-shadows ≡ record { total = 7; smallest = 4; largest = 7 })
+unfolding figures-computed
+later-told = (refl, refl, refl)
 
 -- ---- files that differ
 
@@ -158,6 +177,29 @@ differ-told = (
   record { long = refl; magic = refl; model = refl; sections = sections-told .1 },
   record { long = refl; magic = refl; model = refl; sections = sections-told .1 },
 )
+
+-- a take without its interpolation bytes is all else that it was
+pub without-told :
+    without-interpolation (record {
+      model = 77 ∷ [];
+      bones = record { name = 65 ∷ []; frame = 1; tx = 2; ty = 3; tz = 4; rx = 5; ry = 6; rz = 7; rw = 8; interpolation = 9 ∷ [] } ∷ [];
+      morphs = morph-said 66 10 ∷ [];
+      cameras = record { frame = 11; distance = 12; px = 13; py = 14; pz = 15; rx = 16; ry = 17; rz = 18; interpolation = 19 ∷ []; fov = 20; perspective = true } ∷ [];
+      lights = light-said 21 ∷ [];
+      self-shadows = shadow-said 22 1 ∷ [];
+      properties = record { frame = 23; visible = true; ik-states = ik-said 69 false ∷ [] } ∷ [];
+    })
+    ≡ record {
+      model = 77 ∷ [];
+      bones = record { name = 65 ∷ []; frame = 1; tx = 2; ty = 3; tz = 4; rx = 5; ry = 6; rz = 7; rw = 8; interpolation = [] } ∷ [];
+      morphs = morph-said 66 10 ∷ [];
+      cameras = record { frame = 11; distance = 12; px = 13; py = 14; pz = 15; rx = 16; ry = 17; rz = 18; interpolation = []; fov = 20; perspective = true } ∷ [];
+      lights = light-said 21 ∷ [];
+      self-shadows = shadow-said 22 1 ∷ [];
+      properties = record { frame = 23; visible = true; ik-states = ik-said 69 false ∷ [] } ∷ [];
+    }
+unfolding bone-without camera-without without-interpolation
+without-told = refl
 
 pub each-told : DifferEach names-and-interpolation (posed 1 5 ∷ posed 1 5 ∷ []) (posed 1 5 ∷ posed 2 6 ∷ [])
 each-told = (differ-self names-and-interpolation (posed 1 5), (differ-told .1, tt))

@@ -15,6 +15,7 @@ use Rattle.vmd_format.specs.Computed.{computed, declines, start, fours, u1, bon
 use Rattle.vmd_keys.specs.Names.{keep-if, select, distinct, bone-names-of, morph-names-of}
 use Rattle.vmd_tables.specs.Tables.{joined, ends-from, table-of-names, index-if, index-of, name-table, name-indices}
 use Rattle.vmd_split.specs.Split.{translation, rotation, parts-of-take, table-within, table-fits, bones-fit, morphs-fit, records-fit, parts-fit, split, TableSizes, table-sizes, split-answer, parts-left, buffers, split-sizes}
+use Rattle.vmd_split.specs.Given.{by-field, fronts, tails}
 
 -- unfolding this and `computed` unfolds the definitions of parts
 unfoldable parts-computed : Unit {0}
@@ -82,6 +83,11 @@ every (suc n) f = f n && every n f
 abbrev sizes : TableSizes
 sizes = record { bone-names = 3; bone-name-bytes = 2; morph-names = 1; morph-name-bytes = 1 }
 
+-- which of a table's two lengths is which number, and of which table
+pub sizes-told : table-sizes (sevens (λ i n. i)) ≡ record { bone-names = 1; bone-name-bytes = 0; morph-names = 3; morph-name-bytes = 2 }
+unfolding parts-computed
+sizes-told = refl
+
 -- which buffer of a call is which of the parts
 pub buffers-are :
     buffers (1 ∷ []) (2 ∷ []) (3 ∷ []) (4 ∷ []) (5 ∷ []) (6 ∷ []) (7 ∷ []) (8 ∷ []) (9 ∷ []) (10 ∷ []) (11 ∷ []) (12 ∷ []) (13 ∷ []) (14 ∷ []) (15 ∷ []) (16 ∷ [])
@@ -115,6 +121,13 @@ parts-told = (refl, refl, refl)
 pub buffers-told : parts-left (longer 4) (split lenient (file 3) (longer 4)) ≡ told 3 4
 unfolding computed parts-computed
 buffers-told = refl
+
+-- of buffers as many elements as the parts have, whatever stands there, and the others: of those at entry, and of those at exit
+pub fronts-told :
+    (fronts (told 3 0) (longer 4) ≡ longer 0) × (tails (told 3 0) (longer 4) ≡ sevens (λ i n. 4))
+    × (fronts (told 3 0) (told 3 4) ≡ told 3 0) × (tails (told 3 0) (told 3 4) ≡ sevens (λ i n. 4))
+unfolding by-field fronts tails
+fronts-told = (refl, refl, refl, refl)
 
 -- any of the buffers one too short; then nothing is written; 1 before 14
 pub refused-told :
