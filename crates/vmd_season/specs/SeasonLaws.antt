@@ -1,5 +1,5 @@
 -- Laws of season figures: the sentences of 02 b). In every manner of reading.
-use Prim.Native.Nat.{ℕ, _+_, _*_, _<_, min}
+use Prim.Native.Nat.{ℕ, suc, _+_, _-_, _*_, _≤_, _<_, min}
 use mathlib.Core.Path.{_≡_, refl, ap, sym, _∙_}
 use mathlib.Core.Bool.{Bool, true, false}
 use mathlib.Core.List.{List, [], _∷_, _++_, map}
@@ -213,3 +213,34 @@ records-are m l =
     (λ z f h. let b = eqb (z .accepted) 0 in
     omega (arith, count-total b (z .bones) (f .bones), count-total b (z .morphs) (f .morphs), count-total b (z .cameras) (f .cameras), count-total b (z .lights) (f .lights), count-total b (z .self-shadows) (f .self-shadows), count-total b (z .properties) (f .properties)))
     l no-takes refl
+
+-- ---- every take is counted
+
+-- of n takes that were lent
+record Counted (n : ℕ) (z : Season) : Type 0 where
+  pub some : z .accepted ≤ n
+  pub others : z .refused ≡ min (n - z .accepted) largest-figure
+
+from-counted : (m : Manner) (l : List (List ℕ)) (n : ℕ) (z : Season) → Counted n z → Counted (n + length l) (season-from m z l)
+unfolding season-from with-file with-answer taken-if with-take with-refused
+from-counted m [] n z h = let e : n + 0 ≡ n = omega arith in rw e h
+from-counted m (s ∷ l) n z h =
+    let e : n + suc (length l) ≡ suc n + length l = omega arith in
+    rw e (from-counted m l (suc n) (with-file m z s) (go (read-take m s)))
+  where
+    one : (b : Bool) (f : TakeFigures) → Counted (suc n) (taken-if b z f)
+    one true f = record { some = omega (arith, h .some); others = omega (arith, h .some, h .others) }
+    one false f = record { some = omega (arith, h .some); others = omega (arith, h .some, h .others) }
+
+    go : (x : Answer Take) → Counted (suc n) (with-answer z x)
+    go (declined k) = record { some = omega (arith, h .some); others = omega (arith, h .some, h .others) }
+    go (given t) = one (take-fits z (figures-of t)) (figures-of t)
+
+-- the refused takes are all that are not accepted, up to the largest value, whatever any figure would pass
+pub lent-counted : (m : Manner) (l : List (List ℕ))
+    → (season m l .accepted ≤ length l) × (season m l .refused ≡ min (length l - season m l .accepted) largest-figure)
+unfolding season no-takes
+lent-counted m l =
+    let h = from-counted m l 0 no-takes (record { some = omega arith; others = omega arith }) in
+    let e : 0 + length l ≡ length l = omega arith in
+    (rw e at (h .some), rw e at (h .others))
