@@ -396,9 +396,10 @@ static void builds(void)
     encode(&canonical, &t, CANONICAL);
     build_back(&file, &expected, VMD_OK, &canonical);
 
-    /* what a file may have and the builder does not take */
-    for (k = 0; k < 5; k++) {
-        static const uint32_t numbers[5] = {
+    /* what a file may have and the builder does not take: every kind of name, of float, and the mode */
+    for (k = 0; k < 10; k++) {
+        static const uint32_t numbers[10] = {
+            VMD_NAME_NOT_GOOD, VMD_NOT_FINITE, VMD_NOT_FINITE, VMD_SELF_SHADOW_UNFIT, VMD_NAME_NOT_GOOD,
             VMD_NAME_NOT_GOOD, VMD_NOT_FINITE, VMD_NOT_FINITE, VMD_SELF_SHADOW_UNFIT, VMD_NAME_NOT_GOOD
         };
         t = good_take();
@@ -408,6 +409,11 @@ static void builds(void)
         case 2: t.morphs[8].weight = 0xFF800001; break;
         case 3: t.self_shadows[5].mode = 3; break;
         case 4: t.model = named("\xA0"); break;
+        case 5: t.bones[9].name = named("\xFD"); break;
+        case 6: t.cameras[2].floats[6] = 0x7F800000; break;
+        case 7: t.lights[3].floats[5] = 0xFF800000; break;
+        case 8: t.self_shadows[5].distance = 0x7F800001; break;
+        case 9: t.properties[7].states[2].name = named("\x83\x7F"); break;
         }
         trial("a take that the builder refuses with %u", (unsigned)numbers[k]);
         encode(&file, &t, RAW);
