@@ -166,9 +166,10 @@ uint32_t vmd_ik_state(const uint8_t *file, size_t file_len, const uint32_t count
 /*
  * ---- names and interpolation bytes
  *
- * part receives where the bytes begin in the file, and how many there are; 0, 0 where there are none. A name ends before its
- * first zero byte. Where there is no such record, or the header of the file is refused, there are none. The part always lies
- * in the file, whatever counts, places and scratch hold. These calls do not refuse.
+ * part receives where the bytes begin in the file, and how many there are; 0, 0 where there are none, also of an empty name.
+ * A name ends before its first zero byte. Where there is no such record, or for vmd_model_name the header of the file is
+ * refused, there are none; the other calls look at no header. The part always lies in the file, whatever counts, places and
+ * scratch hold. These calls do not refuse.
  */
 
 void vmd_bone_name(const uint8_t *file, size_t file_len, const uint32_t counts[6], const uint64_t places[6], size_t i,
@@ -210,7 +211,8 @@ uint32_t vmd_join_animations(const uint8_t *first, size_t first_len, const uint8
                              size_t out_len, uint64_t *written);
 /*
  * The model name of the join: the first file's where that is not empty, else the second's. part receives which file it is in
- * (0 the first, 1 the second), where it begins there, and its length; 0, 0, 0 where both are empty.
+ * (0 the first, 1 the second), where it begins there, and its length; 0, 0, 0 where both are empty. A file whose header is
+ * refused counts as one without a model name.
  */
 void vmd_joined_model(const uint8_t *first, size_t first_len, const uint8_t *second, size_t second_len, uint64_t part[3]);
 
@@ -243,6 +245,9 @@ uint32_t vmd_tidy_animation(const uint8_t *file, size_t file_len, uint64_t *scra
  * A name table is bytes, and the end of each name in them: never falling, the last equal to the number of bytes; with no
  * names the bytes are empty. Cameras, lights, self-shadows and properties are back-to-back records as a file has them. Bones
  * and morphs are columns: a name's index in its table, a frame, and for a bone three, four and 64 values, for a morph one.
+ *
+ * What is turned down, in this order: 5; the model name, each name of the bones' table and of the morphs' (each 6, then 7);
+ * camera floats, light floats (8), self-shadows (9), IK names (7); 10; 11; each bone (12, then 8), each morph likewise; 13.
  */
 
 /*

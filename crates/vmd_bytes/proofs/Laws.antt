@@ -11,7 +11,7 @@ use lib.ListN.{length, take, drop, getD, set, replicate, length-append, length-t
 use lib.Seq.{length-take-le, take-nil, take-take, take-at, take-add, take-length, take-append-le, drop-cons, drop-drop, drop-append-add, getD-drop, set-split, append-snoc}
 use borrow.Author.Tests.{eq-eqb, ne-eqb}
 use Rattle.vmd_format.specs.Bytes.{u32, u32-bytes, before-zero, padded}
-use Rattle.vmd_format.specs.BytesLaws.{padded-length}
+use Rattle.vmd_laws.specs.BytesLaws.{padded-length}
 use Rattle.vmd_format.specs.Take.{same}
 use Rattle.vmd_bytes.specs.Slices.{splice, run}
 use Rattle.vmd_bytes.specs.Fields.{no-zero, canonical}

@@ -2,7 +2,7 @@
 -- calls of vmd_reader give with that opening.
 use mathlib.Core.Path.{_≡_, refl}
 use Rattle.vmd_format.specs.Opening.{Opening}
-use Rattle.vmd_c.specs.Meaning.{counts-of, places-of, extent-at, scan-at}
+use Rattle.vmd_slots.specs.Meaning.{counts-of, places-of, extent-at, scan-at}
 
 pub own-sections : (o : Opening)
     → scan-at (counts-of o) (places-of o)

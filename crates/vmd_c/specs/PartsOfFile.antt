@@ -7,8 +7,8 @@ use Rattle.vmd_format.specs.Fetch.{model-of}
 use Rattle.vmd_format.specs.Join.{joined-model}
 use Rattle.vmd_base.specs.declared.VmdPart.{VmdPart}
 use Rattle.vmd_places.specs.Parts.{file-part, Cuts}
-use Rattle.vmd_scan.proofs.Laws.{model-cuts}
-use Rattle.vmd_c.specs.Meaning.{part-words, Names, joined-words, file-of}
+use Rattle.vmd_header.proofs.Laws.{model-cuts}
+use Rattle.vmd_slots.specs.Meaning.{part-words, Names, joined-words, file-of}
 
 -- a slot names what its part does
 pub named : {s l : List ℕ} {p : VmdPart} → Cuts s p l → Names s (part-words p) l

@@ -9,11 +9,11 @@ use Rattle.vmd_format.specs.Answer.{Answer, given}
 use Rattle.vmd_format.specs.Read.{Manner}
 use Rattle.vmd_format.specs.Take.{Take}
 use Rattle.vmd_format.specs.Opening.{places-needed, Opening, open-file, scratch-after}
-use Rattle.vmd_format.specs.OpeningLaws.{take-opens}
-use Rattle.vmd_format.specs.FetchLaws.{Figures, own-records}
+use Rattle.vmd_laws.specs.OpeningLaws.{take-opens}
+use Rattle.vmd_laws.specs.FetchLaws.{Figures, own-records}
 use Rattle.vmd_format.specs.Join.{join}
-use Rattle.vmd_format.specs.JoinLaws.{Fit}
-use Rattle.vmd_format.specs.SavingLaws.{Accepted, Reads}
+use Rattle.vmd_laws.specs.JoinLaws.{Fit}
+use Rattle.vmd_laws.specs.SavingLaws.{Accepted, Reads}
 use Rattle.vmd_reader.specs.Own.{Calls, own-calls}
 use Rattle.vmd_format.specs.Parts.{take-of-parts}
 use Rattle.vmd_parts.specs.Building.{Slices, Typed, parts, built-answer, built-file, build-back}

@@ -7,19 +7,19 @@ use borrow.Author.Tests.{ltb-true}
 use lib.ListN.{length, length-map}
 use lib.Ieee.{Float, binary32, ofBits, toBits}
 use lib.Ieee.Bits.{ofBits-fits, toBits-ofBits, nanBits-is}
-use Rattle.vmd_format.specs.BytesLaws.{Bytes, Name}
+use Rattle.vmd_laws.specs.BytesLaws.{Bytes, Name}
 use Rattle.vmd_format.specs.Answer.{given, map-answer, fitted, left}
 use Rattle.vmd_format.specs.Layout.{Layout}
-use Rattle.vmd_format.specs.LayoutLaws.{Lawful}
-use Rattle.vmd_format.specs.RecordLaws.{GoodBone, GoodMorph, camera-lawful, light-lawful, self-shadow-lawful}
+use Rattle.vmd_laws.specs.LayoutLaws.{Lawful}
+use Rattle.vmd_laws.specs.RecordLaws.{GoodBone, GoodMorph, camera-lawful, light-lawful, self-shadow-lawful}
 use Rattle.vmd_format.specs.Read.{Manner, write-all}
-use Rattle.vmd_format.specs.ReadLaws.{All}
+use Rattle.vmd_laws.specs.ReadLaws.{All}
 use Rattle.vmd_format.specs.Take.{Take, property}
-use Rattle.vmd_format.specs.TakeLaws.{GoodProperty, property-lawful, WellFormed}
+use Rattle.vmd_laws.specs.TakeLaws.{GoodProperty, property-lawful, WellFormed}
 use Rattle.vmd_format.specs.Join.{export-file}
-use Rattle.vmd_format.specs.SavingLaws.{Accepted, well-formed}
+use Rattle.vmd_laws.specs.SavingLaws.{Accepted, well-formed}
 use Rattle.vmd_format.specs.Parts.{Parts, build}
-use Rattle.vmd_format.specs.PartsLaws.{Words, all-map}
+use Rattle.vmd_laws.specs.PartsLaws.{Words, all-map}
 use Rattle.vmd_bytes.proofs.Floats.{finite-below, other-pattern}
 use Rattle.vmd_check_columns.specs.Meaning.{bits}
 use Rattle.vmd_parts.specs.Building.{Slices, parts, built-answer, built-output, Floats, Typed}
@@ -28,11 +28,11 @@ use Rattle.vmd_keys.specs.Names.{distinct, bone-names-of, morph-names-of}
 use Rattle.vmd_tables.specs.Tables.{joined, table-of-names, index-of, name-table, name-indices}
 use Rattle.vmd_count.specs.DistinctLaws.{all-then, all-distinct, distinct-short}
 use Rattle.vmd_tables.specs.TableMeaning.{table-ends-below, index-most}
-use Rattle.vmd_split.specs.Columns.{all-of, below-write, below-map, below-all, all-write}
-use Rattle.vmd_split.specs.Split.{translation, rotation, parts-of-take, split, parts-left}
-use Rattle.vmd_split.specs.Passing.{Finite, BoneFit, BuilderPasses}
-use Rattle.vmd_split.specs.Given.{with-model, fronts, split-gives, left-parts}
-use Rattle.vmd_split.specs.Rebuilding.{names-fit, rebuilt}
+use Rattle.vmd_take_parts.specs.Columns.{all-of, below-write, below-map, below-all, all-write}
+use Rattle.vmd_take_parts.specs.Split.{translation, rotation, parts-of-take, split, parts-left}
+use Rattle.vmd_take_parts.specs.Passing.{Finite, BoneFit, BuilderPasses}
+use Rattle.vmd_take_parts.specs.Given.{with-model, fronts, split-gives, left-parts}
+use Rattle.vmd_take_parts.specs.Rebuilding.{names-fit, rebuilt}
 
 -- ---- the builder's call
 

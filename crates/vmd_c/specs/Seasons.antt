@@ -5,7 +5,7 @@ use mathlib.Core.Path.{_≡_, refl}
 use mathlib.Core.List.{List, [], _∷_}
 use Rattle.vmd_format.specs.Read.{lenient}
 use Rattle.vmd_season.specs.Season.{Season, no-takes, with-file, season-from, season, mean}
-use Rattle.vmd_c.specs.Meaning.{season-counts, season-figures, section-at, season-at, mean-words}
+use Rattle.vmd_slots.specs.Meaning.{season-counts, season-figures, section-at, season-at, mean-words}
 
 pub record Slots : Type 0 where
   pub counts : List ℕ

@@ -1,9 +1,6 @@
-// The library for C, thin over the calls of vmd_reader, vmd_export, vmd_names, vmd_parts, vmd_split, vmd_season and vmd_tidy.
-// include/vmd.h says how C calls it. Every function states what it returns, and every slot and buffer at exit, by equations
-// with definitions.
-use vmd_base::VmdPart;
-use vmd_base::VmdSection;
-use vmd_output::VmdWritten;
+// The library for C, thin over the calls of vmd_reader, vmd_export, vmd_names, vmd_parts, vmd_split, vmd_season and vmd_tidy, and
+// for its slots over vmd_slots. include/vmd.h says how C calls it. Every function states what it returns, and every slot and
+// buffer at exit, by equations with definitions.
 use vmd_reader::VmdBoneAnswer;
 use vmd_reader::VmdCameraAnswer;
 use vmd_reader::VmdIkStateAnswer;
@@ -11,16 +8,10 @@ use vmd_reader::VmdLightAnswer;
 use vmd_reader::VmdLightBitsAnswer;
 use vmd_reader::VmdMorphAnswer;
 use vmd_reader::VmdOpened;
-use vmd_reader::VmdOpening;
 use vmd_reader::VmdPropertyAnswer;
 use vmd_reader::VmdPropertyStep;
 use vmd_reader::VmdSelfShadowAnswer;
-use vmd_records::VmdParsedPropertyFrame;
-use vmd_scan::VmdSections;
 use vmd_season::VmdSeason;
-use vmd_season::VmdSectionFigures;
-use vmd_split::VmdSplit;
-use vmd_tidy::VmdTidyAnswer;
 ghost use mathlib.Core.Path.{_≡_};
 ghost use mathlib.Core.List.{[], _∷_};
 ghost use Prim.Native.Nat.{_*_};
@@ -35,62 +26,14 @@ ghost use Rattle.vmd_format.specs.Fetch.{record-place, fetch, or-empty, model-o
 ghost use Rattle.vmd_format.specs.Parts.{build};
 ghost use Rattle.vmd_places.specs.Meaning.{ik-place};
 ghost use Rattle.vmd_places.specs.Parts.{file-part, part-in};
-ghost use Rattle.vmd_reader.specs.Meaning.{opening-is};
-ghost use Rattle.vmd_output.specs.Meaning.{written-answer};
 ghost use Rattle.vmd_export.specs.Saved.{exported-answer, exported-output, older-answer, older-output, joined-answer, joined-output, export-size, older-size, join-size};
 ghost use Rattle.vmd_checks.specs.Meaning.{parts-of};
-ghost use Rattle.vmd_c.specs.Meaning.{status, slot-after, counts-of, places-of, totals-of, scan-at, bone-words, morph-words, camera-words, light-values, light-words, self-shadow-words, property-words, part-words, joined-words, size-words, count-words, season-counts, season-figures, season-at, mean-words};
-ghost use Rattle.vmd_split.specs.Split.{split, split-answer, split-sizes, parts-left, buffers};
-ghost use Rattle.vmd_split.specs.Meaning.{split-is};
+ghost use Rattle.vmd_slots.specs.Meaning.{status, slot-after, counts-of, places-of, totals-of, scan-at, bone-words, morph-words, camera-words, light-values, light-words, self-shadow-words, property-words, part-words, joined-words, size-words, count-words, season-counts, season-figures, season-at, mean-words};
+ghost use Rattle.vmd_take_parts.specs.Split.{split, split-answer, split-sizes, parts-left, buffers};
 ghost use Rattle.vmd_tidy.specs.Tidied.{tidied-answer, tidied-output, tidied-scratch, size-answer, size-scratch};
-ghost use Rattle.vmd_tidy.specs.Meaning.{tidy-answer};
 ghost use Rattle.vmd_season.specs.Season.{no-takes, with-file, mean};
-ghost use Rattle.vmd_season.specs.Meaning.{season-is};
-
-fn wide(b: u8) -> u32
-    ensures { λ r. ⌜ r ≡ b ⌝ }
-{
-    b as u32
-}
 
 // ---- opening
-
-// The opening that counts and places say. The calls for records need neither the number of IK states nor the frames.
-fn opening_of(counts: &[u32; 6], places: &[u64; 6]) -> VmdOpening
-    ensures { λ r. ⌜ opening-is r .scan ≡ scan-at (now (counts .entry)) (now (places .entry)) ⌝ }
-{
-    VmdOpening {
-        sections: VmdSections {
-            bones: VmdSection {
-                count: counts[0],
-                place: places[0] as usize,
-            },
-            morphs: VmdSection {
-                count: counts[1],
-                place: places[1] as usize,
-            },
-            cameras: VmdSection {
-                count: counts[2],
-                place: places[2] as usize,
-            },
-            lights: VmdSection {
-                count: counts[3],
-                place: places[3] as usize,
-            },
-            self_shadows: VmdSection {
-                count: counts[4],
-                place: places[4] as usize,
-            },
-            properties: VmdSection {
-                count: counts[5],
-                place: places[5] as usize,
-            },
-            ik_states: 0,
-        },
-        min_frame: 0,
-        max_frame: 0,
-    }
-}
 
 #[no_mangle]
 pub extern "C" fn vmd_parse_animation(
@@ -147,7 +90,7 @@ pub extern "C" fn vmd_bone_frame(
         (r ≡ status answer)
         × (now (fields .exit) ≡ slot-after (now (fields .entry)) bone-words answer)) ⌝ }
 {
-    match vmd_reader::bone_frame(file, opening_of(counts, places), i) {
+    match vmd_reader::bone_frame(file, vmd_slots::opening_of(counts, places), i) {
         VmdBoneAnswer::Refused(k) => k.number(),
         VmdBoneAnswer::Found(x) => {
             *fields = [
@@ -177,7 +120,7 @@ pub extern "C" fn vmd_morph_frame(
         (r ≡ status answer)
         × (now (fields .exit) ≡ slot-after (now (fields .entry)) morph-words answer)) ⌝ }
 {
-    match vmd_reader::morph_frame(file, opening_of(counts, places), i) {
+    match vmd_reader::morph_frame(file, vmd_slots::opening_of(counts, places), i) {
         VmdMorphAnswer::Refused(k) => k.number(),
         VmdMorphAnswer::Found(x) => {
             *fields = [x.frame, x.weight];
@@ -198,10 +141,10 @@ pub extern "C" fn vmd_camera_frame(
         (r ≡ status answer)
         × (now (fields .exit) ≡ slot-after (now (fields .entry)) camera-words answer)) ⌝ }
 {
-    match vmd_reader::camera_frame(file, opening_of(counts, places), i) {
+    match vmd_reader::camera_frame(file, vmd_slots::opening_of(counts, places), i) {
         VmdCameraAnswer::Refused(k) => k.number(),
         VmdCameraAnswer::Found(x) => {
-            let perspective = wide(vmd_bytes::flag_to_byte(x.perspective));
+            let perspective = vmd_slots::wide(vmd_bytes::flag_to_byte(x.perspective));
             *fields = [
                 x.frame,
                 x.distance,
@@ -233,7 +176,7 @@ pub extern "C" fn vmd_light_frame(
         × (now (frame .exit) ≡ slot-after (now (frame .entry)) (λ l. l .frame) answer)
         × (now (values .exit) ≡ slot-after (now (values .entry)) light-values answer)) ⌝ }
 {
-    match vmd_reader::light_frame(file, opening_of(counts, places), i) {
+    match vmd_reader::light_frame(file, vmd_slots::opening_of(counts, places), i) {
         VmdLightAnswer::Refused(k) => k.number(),
         VmdLightAnswer::Found(x) => {
             *frame = x.frame;
@@ -262,7 +205,7 @@ pub extern "C" fn vmd_light_frame_bits(
         (r ≡ status answer)
         × (now (fields .exit) ≡ slot-after (now (fields .entry)) light-words answer)) ⌝ }
 {
-    match vmd_reader::light_frame_bits(file, opening_of(counts, places), i) {
+    match vmd_reader::light_frame_bits(file, vmd_slots::opening_of(counts, places), i) {
         VmdLightBitsAnswer::Refused(k) => k.number(),
         VmdLightBitsAnswer::Found(x) => {
             *fields = [
@@ -291,21 +234,14 @@ pub extern "C" fn vmd_self_shadow_frame(
         (r ≡ status answer)
         × (now (fields .exit) ≡ slot-after (now (fields .entry)) self-shadow-words answer)) ⌝ }
 {
-    match vmd_reader::self_shadow_frame(file, opening_of(counts, places), i) {
+    match vmd_reader::self_shadow_frame(file, vmd_slots::opening_of(counts, places), i) {
         VmdSelfShadowAnswer::Refused(k) => k.number(),
         VmdSelfShadowAnswer::Found(x) => {
-            let mode = wide(x.mode);
+            let mode = vmd_slots::wide(x.mode);
             *fields = [x.frame, mode, x.distance];
             0
         }
     }
-}
-
-fn property_words(x: VmdParsedPropertyFrame) -> [u32; 3]
-    ensures { λ r. ⌜ r ≡ x .frame ∷ flag-byte (x .visible) ∷ x .«ik_count» ∷ [] ⌝ }
-{
-    let visible = wide(vmd_bytes::flag_to_byte(x.visible));
-    [x.frame, visible, x.ik_count]
 }
 
 #[no_mangle]
@@ -321,10 +257,10 @@ pub extern "C" fn vmd_property_frame(
         (r ≡ status answer)
         × (now (fields .exit) ≡ slot-after (now (fields .entry)) property-words answer)) ⌝ }
 {
-    match vmd_reader::property_frame(file, opening_of(counts, places), scratch, i) {
+    match vmd_reader::property_frame(file, vmd_slots::opening_of(counts, places), scratch, i) {
         VmdPropertyAnswer::Refused(k) => k.number(),
         VmdPropertyAnswer::Found(x) => {
-            *fields = property_words(x);
+            *fields = vmd_slots::property_words(x);
             0
         }
     }
@@ -345,7 +281,7 @@ pub extern "C" fn vmd_property_frame_at(
     match vmd_reader::property_frame_at(file, place as usize) {
         VmdPropertyStep::Refused(k) => k.number(),
         VmdPropertyStep::Found { frame, next: after } => {
-            *fields = property_words(frame);
+            *fields = vmd_slots::property_words(frame);
             *next = after as u64;
             0
         }
@@ -366,22 +302,16 @@ pub extern "C" fn vmd_ik_state(
         (r ≡ status answer)
         × (now (enabled .exit) ≡ slot-after (now (enabled .entry)) (λ k. flag-byte (k .enabled)) answer)) ⌝ }
 {
-    match vmd_reader::ik_state(file, opening_of(counts, places), scratch, i, j) {
+    match vmd_reader::ik_state(file, vmd_slots::opening_of(counts, places), scratch, i, j) {
         VmdIkStateAnswer::Refused(k) => k.number(),
         VmdIkStateAnswer::Found(x) => {
-            *enabled = wide(vmd_bytes::flag_to_byte(x.enabled));
+            *enabled = vmd_slots::wide(vmd_bytes::flag_to_byte(x.enabled));
             0
         }
     }
 }
 
 // ---- names and interpolation bytes
-
-fn part_words(part: VmdPart) -> [u64; 2]
-    ensures { λ r. ⌜ r ≡ part-words part ⌝ }
-{
-    [part.at as u64, part.len as u64]
-}
 
 #[no_mangle]
 pub extern "C" fn vmd_bone_name(
@@ -394,7 +324,11 @@ pub extern "C" fn vmd_bone_name(
     ensures { λ _. ⌜ (let p = scan-at (now (counts .entry)) (now (places .entry)) .bones in
         now (part .exit) ≡ part-words (part-in (record-place 111 p i (now (file .entry))) 0 (or-empty (map-answer (λ x. x .name) (fetch bone p i (now (file .entry))))))) ⌝ }
 {
-    *part = part_words(vmd_reader::bone_name_part(file, opening_of(counts, places), i));
+    *part = vmd_slots::part_words(vmd_reader::bone_name_part(
+        file,
+        vmd_slots::opening_of(counts, places),
+        i,
+    ));
 }
 
 #[no_mangle]
@@ -408,7 +342,11 @@ pub extern "C" fn vmd_morph_name(
     ensures { λ _. ⌜ (let p = scan-at (now (counts .entry)) (now (places .entry)) .morphs in
         now (part .exit) ≡ part-words (part-in (record-place 23 p i (now (file .entry))) 0 (or-empty (map-answer (λ x. x .name) (fetch morph p i (now (file .entry))))))) ⌝ }
 {
-    *part = part_words(vmd_reader::morph_name_part(file, opening_of(counts, places), i));
+    *part = vmd_slots::part_words(vmd_reader::morph_name_part(
+        file,
+        vmd_slots::opening_of(counts, places),
+        i,
+    ));
 }
 
 #[no_mangle]
@@ -424,14 +362,20 @@ pub extern "C" fn vmd_ik_name(
     ensures { λ _. ⌜ (let p = scan-at (now (counts .entry)) (now (places .entry)) .properties in
         now (part .exit) ≡ part-words (part-in (ik-place p (now (scratch .entry)) i j (now (file .entry))) 0 (or-empty (map-answer (λ x. x .name) (fetch-ik-state p (now (scratch .entry)) i j (now (file .entry))))))) ⌝ }
 {
-    *part = part_words(vmd_reader::ik_name_part(file, opening_of(counts, places), scratch, i, j));
+    *part = vmd_slots::part_words(vmd_reader::ik_name_part(
+        file,
+        vmd_slots::opening_of(counts, places),
+        scratch,
+        i,
+        j,
+    ));
 }
 
 #[no_mangle]
 pub extern "C" fn vmd_model_name(file: &[u8], part: &mut [u64; 2])
     ensures { λ _. ⌜ now (part .exit) ≡ part-words (file-part 30 (length (model-of (now (file .entry))))) ⌝ }
 {
-    *part = part_words(vmd_reader::model_part(file));
+    *part = vmd_slots::part_words(vmd_reader::model_part(file));
 }
 
 #[no_mangle]
@@ -445,7 +389,11 @@ pub extern "C" fn vmd_bone_interpolation(
     ensures { λ _. ⌜ (let p = scan-at (now (counts .entry)) (now (places .entry)) .bones in
         now (part .exit) ≡ part-words (part-in (record-place 111 p i (now (file .entry))) 47 (or-empty (map-answer (λ x. x .interpolation) (fetch bone p i (now (file .entry))))))) ⌝ }
 {
-    *part = part_words(vmd_reader::bone_interpolation_part(file, opening_of(counts, places), i));
+    *part = vmd_slots::part_words(vmd_reader::bone_interpolation_part(
+        file,
+        vmd_slots::opening_of(counts, places),
+        i,
+    ));
 }
 
 #[no_mangle]
@@ -459,24 +407,14 @@ pub extern "C" fn vmd_camera_interpolation(
     ensures { λ _. ⌜ (let p = scan-at (now (counts .entry)) (now (places .entry)) .cameras in
         now (part .exit) ≡ part-words (part-in (record-place 61 p i (now (file .entry))) 32 (or-empty (map-answer (λ x. x .interpolation) (fetch camera p i (now (file .entry))))))) ⌝ }
 {
-    *part = part_words(vmd_reader::camera_interpolation_part(file, opening_of(counts, places), i));
+    *part = vmd_slots::part_words(vmd_reader::camera_interpolation_part(
+        file,
+        vmd_slots::opening_of(counts, places),
+        i,
+    ));
 }
 
 // ---- saving and joining
-
-// Hands over what a call that writes answers: the status is the result, and the slot receives the length.
-fn report_written(answer: VmdWritten, slot: &mut u64) -> u32
-    ensures { λ r. ⌜ r ≡ status (written-answer answer) ⌝ }
-    ensures { λ _. ⌜ now (slot .exit) ≡ slot-after (now (slot .entry)) (λ n. n) (written-answer answer) ⌝ }
-{
-    match answer {
-        VmdWritten::Refused(k) => k.number(),
-        VmdWritten::Bytes(n) => {
-            *slot = n;
-            0
-        }
-    }
-}
 
 #[no_mangle]
 pub extern "C" fn vmd_export_size(file: &[u8], size: &mut u64) -> u32
@@ -484,7 +422,7 @@ pub extern "C" fn vmd_export_size(file: &[u8], size: &mut u64) -> u32
         (r ≡ status answer)
         × (now (size .exit) ≡ slot-after (now (size .entry)) (λ n. n) answer)) ⌝ }
 {
-    report_written(vmd_export::export_vmd_size(file), size)
+    vmd_slots::report_written(vmd_export::export_vmd_size(file), size)
 }
 
 #[no_mangle]
@@ -494,7 +432,7 @@ pub extern "C" fn vmd_export_animation(file: &[u8], out: &mut [u8], written: &mu
         × (now (written .exit) ≡ slot-after (now (written .entry)) (λ n. n) answer)
         × (now (out .exit) ≡ exported-output lenient (now (file .entry)) (now (out .entry)))) ⌝ }
 {
-    report_written(vmd_export::export_vmd_animation(file, out), written)
+    vmd_slots::report_written(vmd_export::export_vmd_animation(file, out), written)
 }
 
 #[no_mangle]
@@ -503,7 +441,7 @@ pub extern "C" fn vmd_export_older_size(file: &[u8], size: &mut u64) -> u32
         (r ≡ status answer)
         × (now (size .exit) ≡ slot-after (now (size .entry)) (λ n. n) answer)) ⌝ }
 {
-    report_written(vmd_export::export_older_vmd_size(file), size)
+    vmd_slots::report_written(vmd_export::export_older_vmd_size(file), size)
 }
 
 #[no_mangle]
@@ -513,7 +451,7 @@ pub extern "C" fn vmd_export_older_animation(file: &[u8], out: &mut [u8], writte
         × (now (written .exit) ≡ slot-after (now (written .entry)) (λ n. n) answer)
         × (now (out .exit) ≡ older-output lenient (now (file .entry)) (now (out .entry)))) ⌝ }
 {
-    report_written(vmd_export::export_older_vmd_animation(file, out), written)
+    vmd_slots::report_written(vmd_export::export_older_vmd_animation(file, out), written)
 }
 
 #[no_mangle]
@@ -522,7 +460,7 @@ pub extern "C" fn vmd_join_size(first: &[u8], second: &[u8], size: &mut u64) -> 
         (r ≡ status answer)
         × (now (size .exit) ≡ slot-after (now (size .entry)) (λ n. n) answer)) ⌝ }
 {
-    report_written(vmd_export::join_vmd_size(first, second), size)
+    vmd_slots::report_written(vmd_export::join_vmd_size(first, second), size)
 }
 
 #[no_mangle]
@@ -537,7 +475,7 @@ pub extern "C" fn vmd_join_animations<'a>(
         × (now (written .exit) ≡ slot-after (now (written .entry)) (λ n. n) answer)
         × (now (out .exit) ≡ joined-output lenient (now (first .entry)) (now (second .entry)) (now (out .entry)))) ⌝ }
 {
-    report_written(vmd_export::join_vmd_animations(first, second, out), written)
+    vmd_slots::report_written(vmd_export::join_vmd_animations(first, second, out), written)
 }
 
 #[no_mangle]
@@ -558,45 +496,6 @@ pub extern "C" fn vmd_joined_model<'a>(first: &'a [u8], second: &'a [u8], part: 
 
 // ---- tidying
 
-// Hands over what tidying answers: the status is the result, and the slots receive the length and both numbers of each section.
-fn report_tidied(
-    answer: VmdTidyAnswer,
-    bytes: &mut u64,
-    kept: &mut [u32; 6],
-    dropped: &mut [u32; 6],
-) -> u32
-    ensures { λ r. ⌜ (r ≡ status (tidy-answer answer))
-        × (now (bytes .exit) ≡ slot-after (now (bytes .entry)) (λ t. t .bytes) (tidy-answer answer))
-        × (now (kept .exit) ≡ slot-after (now (kept .entry)) (λ t. count-words (t .kept)) (tidy-answer answer))
-        × (now (dropped .exit) ≡ slot-after (now (dropped .entry)) (λ t. count-words (t .dropped)) (tidy-answer answer)) ⌝ }
-{
-    match answer {
-        VmdTidyAnswer::Refused(k) => k.number(),
-        VmdTidyAnswer::Tidied(t) => {
-            let k = t.kept;
-            let d = t.dropped;
-            *bytes = t.bytes;
-            *kept = [
-                k.bones,
-                k.morphs,
-                k.cameras,
-                k.lights,
-                k.self_shadows,
-                k.properties,
-            ];
-            *dropped = [
-                d.bones,
-                d.morphs,
-                d.cameras,
-                d.lights,
-                d.self_shadows,
-                d.properties,
-            ];
-            0
-        }
-    }
-}
-
 #[no_mangle]
 pub extern "C" fn vmd_tidy_size(
     file: &[u8],
@@ -612,7 +511,7 @@ pub extern "C" fn vmd_tidy_size(
         × (now (dropped .exit) ≡ slot-after (now (dropped .entry)) (λ t. count-words (t .dropped)) answer)
         × (now (scratch .exit) ≡ size-scratch lenient (now (file .entry)) (now (scratch .entry)))) ⌝ }
 {
-    report_tidied(vmd_tidy::tidy_vmd_size(file, scratch), size, kept, dropped)
+    vmd_slots::report_tidied(vmd_tidy::tidy_vmd_size(file, scratch), size, kept, dropped)
 }
 
 #[no_mangle]
@@ -632,7 +531,7 @@ pub extern "C" fn vmd_tidy_animation(
         × (now (out .exit) ≡ tidied-output lenient (now (file .entry)) (now (scratch .entry)) (now (out .entry)))
         × (now (scratch .exit) ≡ tidied-scratch lenient (now (file .entry)) (now (scratch .entry)) (now (out .entry)))) ⌝ }
 {
-    report_tidied(
+    vmd_slots::report_tidied(
         vmd_tidy::tidy_vmd_animation(file, scratch, out),
         written,
         kept,
@@ -698,7 +597,7 @@ pub extern "C" fn vmd_build_size(
         morph_frames,
         morph_weights,
     );
-    report_written(answer, size)
+    vmd_slots::report_written(answer, size)
 }
 
 #[no_mangle]
@@ -753,35 +652,17 @@ pub extern "C" fn vmd_build_animation_from_parts(
         morph_weights,
         out,
     );
-    report_written(answer, written)
+    vmd_slots::report_written(answer, written)
 }
 
 // ---- parts out of a take
-
-// The status of a split, with its numbers in the slot.
-fn report_sizes(answer: VmdSplit, sizes: &mut [u64; 4]) -> u32
-    ensures { λ r. ⌜ (r ≡ status (split-is answer)) × (now (sizes .exit) ≡ slot-after (now (sizes .entry)) size-words (split-is answer)) ⌝ }
-{
-    match answer {
-        VmdSplit::Refused(k) => k.number(),
-        VmdSplit::Tables(t) => {
-            *sizes = [
-                t.bone_names,
-                t.bone_name_bytes,
-                t.morph_names,
-                t.morph_name_bytes,
-            ];
-            0
-        }
-    }
-}
 
 #[no_mangle]
 pub extern "C" fn vmd_split_sizes(file: &[u8], sizes: &mut [u64; 4]) -> u32
     ensures { λ r. ⌜ (let answer = split-sizes lenient (now (file .entry)) in
         (r ≡ status answer) × (now (sizes .exit) ≡ slot-after (now (sizes .entry)) size-words answer)) ⌝ }
 {
-    report_sizes(vmd_split::split_vmd_sizes(file), sizes)
+    vmd_slots::report_sizes(vmd_split::split_vmd_sizes(file), sizes)
 }
 
 #[no_mangle]
@@ -836,91 +717,16 @@ pub extern "C" fn vmd_split_animation_into_parts(
         morph_frames,
         morph_weights,
     );
-    report_sizes(answer, sizes)
+    vmd_slots::report_sizes(answer, sizes)
 }
 
 // ---- season figures
-
-// The season that counts and figures say.
-fn season_of(counts: &[u32; 12], figures: &[u64; 11]) -> VmdSeason
-    ensures { λ r. ⌜ season-is r ≡ season-at (now (counts .entry)) (now (figures .entry)) ⌝ }
-{
-    VmdSeason {
-        bones: VmdSectionFigures {
-            total: figures[0],
-            smallest: counts[0],
-            largest: counts[6],
-        },
-        morphs: VmdSectionFigures {
-            total: figures[1],
-            smallest: counts[1],
-            largest: counts[7],
-        },
-        cameras: VmdSectionFigures {
-            total: figures[2],
-            smallest: counts[2],
-            largest: counts[8],
-        },
-        lights: VmdSectionFigures {
-            total: figures[3],
-            smallest: counts[3],
-            largest: counts[9],
-        },
-        self_shadows: VmdSectionFigures {
-            total: figures[4],
-            smallest: counts[4],
-            largest: counts[10],
-        },
-        properties: VmdSectionFigures {
-            total: figures[5],
-            smallest: counts[5],
-            largest: counts[11],
-        },
-        records: figures[6],
-        bone_names: figures[7],
-        morph_names: figures[8],
-        accepted: figures[9],
-        refused: figures[10],
-    }
-}
-
-fn report_season(z: VmdSeason, counts: &mut [u32; 12], figures: &mut [u64; 11])
-    ensures { λ _. ⌜ (now (counts .exit) ≡ season-counts (season-is z)) × (now (figures .exit) ≡ season-figures (season-is z)) ⌝ }
-{
-    *counts = [
-        z.bones.smallest,
-        z.morphs.smallest,
-        z.cameras.smallest,
-        z.lights.smallest,
-        z.self_shadows.smallest,
-        z.properties.smallest,
-        z.bones.largest,
-        z.morphs.largest,
-        z.cameras.largest,
-        z.lights.largest,
-        z.self_shadows.largest,
-        z.properties.largest,
-    ];
-    *figures = [
-        z.bones.total,
-        z.morphs.total,
-        z.cameras.total,
-        z.lights.total,
-        z.self_shadows.total,
-        z.properties.total,
-        z.records,
-        z.bone_names,
-        z.morph_names,
-        z.accepted,
-        z.refused,
-    ];
-}
 
 #[no_mangle]
 pub extern "C" fn vmd_season_none(counts: &mut [u32; 12], figures: &mut [u64; 11])
     ensures { λ _. ⌜ (now (counts .exit) ≡ season-counts no-takes) × (now (figures .exit) ≡ season-figures no-takes) ⌝ }
 {
-    report_season(VmdSeason::none(), counts, figures);
+    vmd_slots::report_season(VmdSeason::none(), counts, figures);
 }
 
 #[no_mangle]
@@ -928,8 +734,8 @@ pub extern "C" fn vmd_season_add(file: &[u8], counts: &mut [u32; 12], figures: &
     ensures { λ _. ⌜ (let next = with-file lenient (season-at (now (counts .entry)) (now (figures .entry))) (now (file .entry)) in
         (now (counts .exit) ≡ season-counts next) × (now (figures .exit) ≡ season-figures next)) ⌝ }
 {
-    let next = season_of(counts, figures).add(file);
-    report_season(next, counts, figures);
+    let next = vmd_slots::season_of(counts, figures).add(file);
+    vmd_slots::report_season(next, counts, figures);
 }
 
 // The mean looks at no counts.
@@ -938,6 +744,6 @@ pub extern "C" fn vmd_season_mean(figures: &[u64; 11], numbers: &mut [u64; 2])
     ensures { λ _. ⌜ now (numbers .exit) ≡ mean-words (mean (season-at [] (now (figures .entry)))) ⌝ }
 {
     let none = [0u32; 12];
-    let m = season_of(&none, figures).mean();
+    let m = vmd_slots::season_of(&none, figures).mean();
     *numbers = [m.quotient, m.remainder];
 }

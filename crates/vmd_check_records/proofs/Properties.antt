@@ -13,13 +13,13 @@ use Rattle.vmd_format.specs.Refusal.{Refusal, file-ends-early}
 use Rattle.vmd_format.specs.Answer.{Answer, declined, given}
 use Rattle.vmd_format.specs.Records.{Property, ik-state}
 use Rattle.vmd_format.specs.Read.{Step, refused, got, Reader, bind, many, table}
-use Rattle.vmd_format.specs.ReadLaws.{Always, always-bind}
+use Rattle.vmd_laws.specs.ReadLaws.{Always, always-bind}
 use Rattle.vmd_format.specs.Take.{property}
 use Rattle.vmd_format.specs.Fetch.{next-frame}
-use Rattle.vmd_format.specs.Places.{Walk, walk, Reaches, frame-end}
-use Rattle.vmd_format.specs.PlacesLaws.{property-in, frames-in, WalkAgrees, walk-agrees, walk-done, walk-short, walk-over, walk-next}
-use Rattle.vmd_format.specs.ScanLaws.{frames-length}
-use Rattle.vmd_format.specs.WalkLaws.{next-above, reaches-first, frame-more}
+use Rattle.vmd_laws.specs.Places.{Walk, walk, Reaches, frame-end}
+use Rattle.vmd_laws.specs.PlacesLaws.{property-in, frames-in, WalkAgrees, walk-agrees, walk-done, walk-short, walk-over, walk-next}
+use Rattle.vmd_laws.specs.ScanLaws.{frames-length}
+use Rattle.vmd_laws.specs.WalkLaws.{next-above, reaches-first, frame-more}
 use Rattle.vmd_format.specs.Parts.{Check, passes, fails, _next_, each, at-end, until-end, frames, frames-or-none, properties-of, is-got, ik-check, property-check}
 use Rattle.vmd_check_records.specs.Stages.{not-whole, whole, counted}
 use Rattle.vmd_names.proofs.Checks.{next-fails, next-on}

@@ -16,7 +16,7 @@ use Rattle.vmd_format.specs.Read.{table}
 use Rattle.vmd_format.specs.Records.{camera, light, self-shadow, ik-state}
 use Rattle.vmd_format.specs.Refusal.{Refusal, not-finite, self-shadow-unfit, name-not-good}
 use Rattle.vmd_format.specs.Parts.{Check, passes, fails, _next_, need, each, finite, records-of, no-bytes-over, camera-check, light-check, self-shadow-check, ik-check}
-use Rattle.vmd_format.specs.SizedLaws.{Sized}
+use Rattle.vmd_laws.specs.SizedLaws.{Sized}
 use Rattle.vmd_check_records.specs.Stages.{finite-words}
 use Rattle.vmd_names.proofs.Checks.{next-fails, next-on, need-true, need-false}
 

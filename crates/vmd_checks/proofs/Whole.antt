@@ -9,10 +9,10 @@ use lib.Dec.{eqb}
 use lib.Ieee.{Float, binary32, toBits}
 use Rattle.vmd_format.specs.Refusal.{parts-not-whole, columns-disagree}
 use Rattle.vmd_format.specs.Layout.{Layout}
-use Rattle.vmd_format.specs.PlacesLaws.{table-length}
+use Rattle.vmd_laws.specs.PlacesLaws.{table-length}
 use Rattle.vmd_format.specs.Parts.{NameTable, Parts, records-of, frames, properties-of, upto, take-of-parts, Check, passes, _next_, need, each, table-right, is-got, whole-parts, columns-check, counts-check, bone-check, morph-check, parts-check}
-use Rattle.vmd_format.specs.PartsLaws.{need-passes, next-assoc}
-use Rattle.vmd_format.specs.SizedLaws.{Sized, camera-sized, light-sized, self-shadow-sized}
+use Rattle.vmd_laws.specs.PartsLaws.{need-passes, next-assoc}
+use Rattle.vmd_laws.specs.SizedLaws.{Sized, camera-sized, light-sized, self-shadow-sized}
 use Rattle.vmd_check_columns.specs.Meaning.{bits}
 use Rattle.vmd_check_columns.specs.Stages.{bone-columns, morph-columns, columns-right, counts-right, bone-right, morph-right}
 use Rattle.vmd_checks.specs.Stages.{all-whole, names-right, records-right, values-right, all-columns}

@@ -10,7 +10,7 @@ use Rattle.vmd_format.specs.Bytes.{u32}
 use Rattle.vmd_format.specs.Layout.{Layout, number, name, raw, _⊗_, as-record}
 use Rattle.vmd_format.specs.Read.{table, write-all}
 use Rattle.vmd_format.specs.Records.{bone, morph}
-use Rattle.vmd_format.specs.SizedLaws.{Sized, bone-sized, morph-sized}
+use Rattle.vmd_laws.specs.SizedLaws.{Sized, bone-sized, morph-sized}
 use Rattle.vmd_bytes.specs.Slices.{run}
 use Rattle.vmd_columns.specs.Columns.{numbers-at, column}
 

@@ -9,11 +9,11 @@ use native.Mathlib.Nat.{mul-suc}
 use native.Mathlib.Numerals.{add-one}
 use borrow.Author.Tests.{lt-ltb, le-ltb}
 use lib.ListN.{length, getD, length-append, length-map}
-use Rattle.vmd_format.specs.BytesLaws.{Bytes}
+use Rattle.vmd_laws.specs.BytesLaws.{Bytes}
 use Rattle.vmd_format.specs.Parts.{upto}
-use Rattle.vmd_format.specs.PartsLaws.{all-map, upto-length, upto-below}
+use Rattle.vmd_laws.specs.PartsLaws.{all-map, upto-length, upto-below}
 use Rattle.vmd_format.specs.Read.{write-all}
-use Rattle.vmd_format.specs.ReadLaws.{All}
+use Rattle.vmd_laws.specs.ReadLaws.{All}
 use Rattle.vmd_keys.specs.Names.{name-in, names-in, distinct}
 use Rattle.vmd_keys.specs.Keys.{top, spot, key}
 use Rattle.vmd_keys.specs.KeyLaws.{name-short, spot-in, key-tells, key-top}

@@ -9,7 +9,7 @@ use native.Mathlib.Omega.{arith}
 use borrow.Author.Tests.{eq-eqb, eqb-true}
 use lib.ListN.{length}
 use lib.Dec.{eqb}
-use Rattle.vmd_format.specs.ReadLaws.{All}
+use Rattle.vmd_laws.specs.ReadLaws.{All}
 use Rattle.vmd_format.specs.Take.{same}
 use Rattle.vmd_format.specs.Parts.{upto}
 use Rattle.vmd_keys.specs.Names.{keep-if, select, distinct}

@@ -13,14 +13,14 @@ use Rattle.vmd_format.specs.Read.{Manner, table}
 use Rattle.vmd_format.specs.Take.{Edition, newer, older, model-width, Take, take-of, read-take, write-header, write-sections, write-edition, write-take}
 use Rattle.vmd_format.specs.Opening.{ik-total, Scan}
 use Rattle.vmd_format.specs.Fetch.{model-of}
-use Rattle.vmd_format.specs.Places.{walk, scan-file}
-use Rattle.vmd_format.specs.PlacesLaws.{section-in, frames-in}
-use Rattle.vmd_format.specs.ScanLaws.{file-in, ExtentWithin, Inside}
-use Rattle.vmd_format.specs.Lengths.{edition-length}
+use Rattle.vmd_laws.specs.Places.{walk, scan-file}
+use Rattle.vmd_laws.specs.PlacesLaws.{section-in, frames-in}
+use Rattle.vmd_laws.specs.ScanLaws.{file-in, ExtentWithin, Inside}
+use Rattle.vmd_laws.specs.Lengths.{edition-length}
 use Rattle.vmd_format.specs.Join.{export-file, edition-take, older-file, joined-model, join, fit-together, join-takes, join-files}
-use Rattle.vmd_format.specs.ExportLaws.{take-in, Scanned, scan-scanned, take-by-places, join-by-places, scan-counts, join-length, join-fits}
-use Rattle.vmd_format.specs.EditionLaws.{take-model-short}
-use Rattle.vmd_format.specs.InsideLaws.{inside-reaches, inside-ends}
+use Rattle.vmd_laws.specs.ExportLaws.{take-in, Scanned, scan-scanned, take-by-places, join-by-places, scan-counts, join-length, join-fits}
+use Rattle.vmd_laws.specs.EditionLaws.{take-model-short}
+use Rattle.vmd_laws.specs.InsideLaws.{inside-reaches, inside-ends}
 use Rattle.vmd_output.specs.Sections.{Frames, records-of, frames-of}
 use Rattle.vmd_bytes.specs.Written.{Wrote, Rest}
 use Rattle.vmd_bytes.proofs.Writes.{rest-as}

@@ -8,14 +8,14 @@ use mathlib.Core.Logic.{_↔_}
 use mathlib.Core.List.{List}
 use lib.ListN.{length}
 use Rattle.vmd_format.specs.Answer.{Answer, given, and-then, file-left}
-use Rattle.vmd_format.specs.AnswerLaws.{left-whole}
+use Rattle.vmd_laws.specs.AnswerLaws.{left-whole}
 use Rattle.vmd_format.specs.Read.{Manner}
 use Rattle.vmd_format.specs.Take.{Take, read-take, write-take}
-use Rattle.vmd_format.specs.TakeLaws.{take-back}
+use Rattle.vmd_laws.specs.TakeLaws.{take-back}
 use Rattle.vmd_format.specs.Join.{export-file, join, join-files}
-use Rattle.vmd_format.specs.JoinLaws.{Fit, Fit₃, empty, join-well-formed, join-assoc, fit-first, fit-last, fit-then, fit-before}
-use Rattle.vmd_format.specs.SavingLaws.{Accepted, Reads, well-formed, written-accepted, export-is, join-is, exports-equal, join-unit}
-use Rattle.vmd_format.specs.Alike.{SameRecords, same-records}
+use Rattle.vmd_laws.specs.JoinLaws.{Fit, Fit₃, empty, join-well-formed, join-assoc, fit-first, fit-last, fit-then, fit-before}
+use Rattle.vmd_laws.specs.SavingLaws.{Accepted, Reads, well-formed, written-accepted, export-is, join-is, exports-equal, join-unit}
+use Rattle.vmd_laws.specs.Alike.{SameRecords, same-records}
 use Rattle.vmd_export.specs.Saved.{exported-answer, exported-output, joined-answer, joined-output}
 
 -- ---- definitions

@@ -3,13 +3,13 @@
 use Prim.Native.Nat.{ℕ, max}
 use mathlib.Core.Path.{_≡_}
 use mathlib.Core.List.{List}
-use Rattle.vmd_format.specs.BytesLaws.{Bytes}
+use Rattle.vmd_laws.specs.BytesLaws.{Bytes}
 use Rattle.vmd_format.specs.Answer.{given}
-use Rattle.vmd_format.specs.AnswerLaws.{left-is}
+use Rattle.vmd_laws.specs.AnswerLaws.{left-is}
 use Rattle.vmd_format.specs.Read.{Manner}
 use Rattle.vmd_format.specs.Opening.{Opening, open-file, joined-smallest}
 use Rattle.vmd_format.specs.Join.{join-files}
-use Rattle.vmd_format.specs.FrameLaws.{joined-opened}
+use Rattle.vmd_laws.specs.FrameLaws.{joined-opened}
 use Rattle.vmd_export.specs.Demand3.{joined}
 
 -- "Joining gives the smaller of two, a take without records not counting"; and the larger of the two largest

@@ -10,13 +10,12 @@ use lib.Dec.{leb}
 use lib.ListN.{length, take, drop}
 use Rattle.vmd_format.specs.Refusal.{output-too-short, model-name-too-long}
 use Rattle.vmd_format.specs.Answer.{Answer, declined, given, and-then, map-answer, unless, within, file-left}
-use Rattle.vmd_format.specs.AnswerLaws.{left-whole}
+use Rattle.vmd_laws.specs.AnswerLaws.{left-whole}
 use Rattle.vmd_format.specs.Read.{Manner}
-use Rattle.vmd_format.specs.Take.{Take, older, edition, write-header, write-edition}
+use Rattle.vmd_format.specs.Take.{Take, older, edition, write-header, write-edition, widened}
 use Rattle.vmd_format.specs.Join.{older-file}
-use Rattle.vmd_format.specs.SavingLaws.{Accepted, Reads}
-use Rattle.vmd_format.specs.EditionLaws.{widened}
-use Rattle.vmd_format.specs.OlderLaws.{header-first, same-sections, ten-shorter, widened-written, older-is, older-fits, older-accepted}
+use Rattle.vmd_laws.specs.SavingLaws.{Accepted, Reads}
+use Rattle.vmd_laws.specs.OlderLaws.{header-first, same-sections, ten-shorter, widened-written, older-is, older-fits, older-accepted}
 use Rattle.vmd_export.specs.Saved.{older-answer, older-output}
 use Rattle.vmd_export.specs.Refusals.{older-in-order, older-is-in-order}
 use Rattle.vmd_export.specs.Demand3.{exported, Enough, exported-is}

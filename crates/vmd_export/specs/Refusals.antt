@@ -9,11 +9,11 @@ use lib.Dec.{leb}
 use lib.ListN.{length}
 use Rattle.vmd_format.specs.Refusal.{output-too-short, count-too-large, model-name-too-long}
 use Rattle.vmd_format.specs.Answer.{Answer, declined, given, and-then, map-answer, unless, fitted, within}
-use Rattle.vmd_format.specs.AnswerLaws.{fitted-length}
+use Rattle.vmd_laws.specs.AnswerLaws.{fitted-length}
 use Rattle.vmd_format.specs.Read.{Manner, lenient}
 use Rattle.vmd_format.specs.Take.{Take, older, read-take, write-edition, write-take}
 use Rattle.vmd_format.specs.Join.{export-file, edition-take, older-file, join, fit-together, join-takes, join-files}
-use Rattle.vmd_format.specs.RefusalLaws.{here, there, reading-numbers, Refuses, among-back, reading-refuses, refuses-more, refuses-then, refuses-unless}
+use Rattle.vmd_laws.specs.RefusalLaws.{here, there, reading-numbers, Refuses, among-back, reading-refuses, refuses-more, refuses-then, refuses-unless}
 use Rattle.vmd_export.specs.Saved.{exported-answer, older-answer, joined-answer, export-size, older-size, join-size}
 
 -- ---- the order

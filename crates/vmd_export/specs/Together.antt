@@ -12,9 +12,9 @@ use Rattle.vmd_format.specs.Read.{Manner, fixed, write-counted}
 use Rattle.vmd_format.specs.Take.{Edition, newer, older, model-width, property, Take}
 use Rattle.vmd_format.specs.Opening.{Scan}
 use Rattle.vmd_format.specs.Fetch.{model-of}
-use Rattle.vmd_format.specs.Places.{scan-file}
+use Rattle.vmd_laws.specs.Places.{scan-file}
 use Rattle.vmd_format.specs.Join.{export-file, older-file, file-length}
-use Rattle.vmd_format.specs.ExportLaws.{Scanned}
+use Rattle.vmd_laws.specs.ExportLaws.{Scanned}
 use Rattle.vmd_output.specs.Sections.{records-of, frames-of}
 
 -- ---- counts and lengths

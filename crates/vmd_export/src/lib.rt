@@ -114,7 +114,7 @@ fn scan_fitting(manner: VmdManner, edition: VmdEdition, file: &[u8]) -> ScanAnsw
     match vmd_scan::scan_file(file, manner) {
         ScanAnswer::Refused(k) => ScanAnswer::Refused(k),
         ScanAnswer::Scanned(a) => {
-            if edition.model_width() < vmd_scan::model_name(file).len() {
+            if edition.model_width() < vmd_header::model_name(file).len() {
                 return ScanAnswer::Refused(VmdRefusal::ModelNameTooLong);
             }
             ScanAnswer::Scanned(a)
@@ -222,7 +222,7 @@ fn export(manner: VmdManner, edition: VmdEdition, out: &mut [u8], file: &[u8]) -
         ScanAnswer::Scanned(a) => write_take(
             out,
             edition,
-            vmd_scan::model_name(file),
+            vmd_header::model_name(file),
             file,
             a,
             file,
@@ -235,9 +235,9 @@ fn export(manner: VmdManner, edition: VmdEdition, out: &mut [u8], file: &[u8]) -
 pub fn joined_model<'a>(first: &'a [u8], second: &'a [u8]) -> &'a [u8]
     ensures { λ r. ⌜ now r ≡ joined-model (model-of (now (first .entry))) (model-of (now (second .entry))) ⌝ }
 {
-    let name = vmd_scan::model_name(first);
+    let name = vmd_header::model_name(first);
     if name.len() == 0 {
-        return vmd_scan::model_name(second);
+        return vmd_header::model_name(second);
     }
     name
 }

@@ -7,11 +7,10 @@ use lib.ListN.{take, drop, replicate}
 use lib.Dec.{T}
 use Rattle.vmd_format.specs.Answer.{given}
 use Rattle.vmd_format.specs.Read.{lenient}
-use Rattle.vmd_format.specs.Take.{same, read-take}
+use Rattle.vmd_format.specs.Take.{same, read-take, widened}
 use Rattle.vmd_format.specs.Opening.{open-file, scratch-after}
 use Rattle.vmd_format.specs.Fetch.{model-of}
 use Rattle.vmd_format.specs.Join.{export-file, older-file, join-files}
-use Rattle.vmd_format.specs.EditionLaws.{widened}
 use Rattle.vmd_format.specs.Computed.{computed, declines, bytes-of, text, older-text, start, older-start, u0, counting, one-each-after, one-each}
 
 abbrev refuses : List ℕ → ℕ → Bool

@@ -2,7 +2,7 @@
 use Prim.Native.Nat.{ℕ, _+_}
 use mathlib.Core.Bool.{Bool, true, false, _&&_}
 use mathlib.Core.List.{List, [], _∷_, _++_}
-use lib.ListN.{length, take, drop}
+use lib.ListN.{length, take, drop, replicate}
 use lib.Dec.{leb, eqb}
 use Rattle.vmd_format.specs.Bytes.{before-zero, padded}
 use Rattle.vmd_format.specs.Refusal.{file-ends-early, magic-differs}
@@ -156,3 +156,7 @@ write-edition e t = write-header e (t .model) ++ write-sections t
 -- the canonical file of a take (document 01's term): the bytes that export writes
 unfoldable pub write-take : Take → List ℕ
 write-take t = write-edition newer t
+
+-- "the newer magic, and the 10 name bytes with 10 zeros after them"; then the sections
+unfoldable pub widened : List ℕ → List ℕ
+widened s = magic ++ (0 ∷ 0 ∷ 0 ∷ 0 ∷ (take 10 (drop 30 s) ++ (replicate 10 0 ++ drop 40 s)))

@@ -1,1 +1,1 @@
-// The VMD format: definitions and laws in specs/, no code.
+// The VMD format: definitions and computed examples in specs/, no code.

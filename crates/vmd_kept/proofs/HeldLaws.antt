@@ -7,7 +7,7 @@ use native.Mathlib.Omega.{arith}
 use lib.Dec.{ltb}
 use lib.ListN.{length, getD, set, take, length-append, length-set}
 use lib.Seq.{take-take, length-take-le, getD-take, take-at, take-all, take-suc-set}
-use Rattle.vmd_format.specs.ReadLaws.{All, all-append}
+use Rattle.vmd_laws.specs.ReadLaws.{All, all-append}
 use Rattle.vmd_keys.specs.Names.{select}
 use Rattle.vmd_keys.specs.Heap.{Swaps, Ascending}
 use Rattle.vmd_keys.specs.HeapLaws.{swaps-length}

@@ -5,7 +5,7 @@ use mathlib.Core.Bool.{Bool, true, false}
 use mathlib.Core.List.{List, [], _∷_, _++_}
 use native.Mathlib.Omega.{arith}
 use lib.ListN.{length}
-use Rattle.vmd_format.specs.ReadLaws.{All}
+use Rattle.vmd_laws.specs.ReadLaws.{All}
 use Rattle.vmd_keys.specs.Names.{select}
 use Rattle.vmd_count.specs.DistinctLaws.{all-select}
 use Rattle.vmd_tracks.specs.Tracks.{put, put-all, lasts}

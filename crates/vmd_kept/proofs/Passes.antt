@@ -8,8 +8,8 @@ use native.Mathlib.Decide.{ℕ-discrete}
 use borrow.Author.Tests.{ltb-true, lt-ltb}
 use lib.ListN.{length, take}
 use lib.Seq.{length-take-le}
-use Rattle.vmd_format.specs.ReadLaws.{All}
-use Rattle.vmd_format.specs.BytesLaws.{Bytes}
+use Rattle.vmd_laws.specs.ReadLaws.{All}
+use Rattle.vmd_laws.specs.BytesLaws.{Bytes}
 use Rattle.vmd_keys.specs.Names.{select}
 use Rattle.vmd_tracks.specs.Tracks.{lasts}
 use Rattle.vmd_tracks.specs.TrackLaws.{select-all, lasts-some}

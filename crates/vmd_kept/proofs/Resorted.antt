@@ -7,7 +7,7 @@ use mathlib.Core.List.{List, [], _∷_, map}
 use native.Mathlib.Omega.{arith}
 use lib.ListN.{length, getD, take}
 use lib.Seq.{take-all, take-length}
-use Rattle.vmd_format.specs.ReadLaws.{All}
+use Rattle.vmd_laws.specs.ReadLaws.{All}
 use Rattle.vmd_format.specs.Parts.{upto}
 use Rattle.vmd_keys.specs.Heap.{Swaps, Ascending}
 use Rattle.vmd_keys.specs.HeapLaws.{swaps-length}

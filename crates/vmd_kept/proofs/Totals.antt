@@ -6,7 +6,7 @@ use mathlib.Core.List.{List, [], _∷_, _++_}
 use native.Mathlib.Omega.{arith}
 use lib.ListN.{length, getD, take}
 use lib.Seq.{take-suc}
-use Rattle.vmd_format.specs.BytesLaws.{Bytes}
+use Rattle.vmd_laws.specs.BytesLaws.{Bytes}
 use Rattle.vmd_keys.specs.Names.{select}
 use Rattle.vmd_tracks.specs.TrackLaws.{Test, passed, failed, test, keep-true, keep-false}
 use Rattle.vmd_sort.specs.Order.{there}

@@ -5,7 +5,7 @@ use mathlib.Core.Bool.{Bool, true, not, _&&_}
 use mathlib.Core.List.{List}
 use lib.Dec.{ltb}
 use lib.ListN.{length, getD}
-use Rattle.vmd_format.specs.ReadLaws.{All}
+use Rattle.vmd_laws.specs.ReadLaws.{All}
 use Rattle.vmd_keys.specs.Names.{select}
 use Rattle.vmd_tracks.specs.Tracks.{lasts}
 use Rattle.vmd_tracks.specs.TrackLaws.{Sorted}

@@ -11,7 +11,7 @@ use Rattle.vmd_format.specs.Layout.{Layout, number, name, raw, _⊗_, as-record
 use Rattle.vmd_format.specs.Read.{table}
 use Rattle.vmd_format.specs.Records.{bone, morph}
 use Rattle.vmd_format.specs.Parts.{upto}
-use Rattle.vmd_format.specs.SizedLaws.{Sized, bone-sized, morph-sized}
+use Rattle.vmd_laws.specs.SizedLaws.{Sized, bone-sized, morph-sized}
 use Rattle.vmd_keys.specs.Names.{name-in, names-in}
 
 named-table : {A : Type 0} {K : Layout A} {w : ℕ} → Sized K w → (nm : A → List ℕ) → ((s : List ℕ) → nm (K .decode s) ≡ before-zero (take 15 s))

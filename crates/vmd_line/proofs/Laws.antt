@@ -11,7 +11,7 @@ use lib.ListN.{length, getD, set, take, length-append}
 use lib.Seq.{take-all, length-take-le}
 use Rattle.vmd_format.specs.Refusal.{Refusal, number}
 use Rattle.vmd_format.specs.Answer.{Answer, declined, given, within}
-use Rattle.vmd_format.specs.AnswerLaws.{within-fits}
+use Rattle.vmd_laws.specs.AnswerLaws.{within-fits}
 use Rattle.vmd_format.specs.Read.{Manner}
 use Rattle.vmd_format.specs.Opening.{Scan, Opening, open-file, scratch-after}
 use Rattle.vmd_bytes.specs.Slices.{splice, run}

@@ -13,11 +13,11 @@ use Rattle.vmd_format.specs.Read.{Manner, lenient}
 use Rattle.vmd_format.specs.Take.{newer, same, write-take}
 use Rattle.vmd_format.specs.Opening.{places-needed, Opening, open-file, scratch-after}
 use Rattle.vmd_format.specs.Join.{export-file, file-length}
-use Rattle.vmd_format.specs.Places.{scan-file}
-use Rattle.vmd_format.specs.OpeningLaws.{ninth-enough}
-use Rattle.vmd_format.specs.InsideLaws.{opened-scan}
-use Rattle.vmd_format.specs.RefusalLaws.{Refuses, reading-numbers, enough-refuses}
-use Rattle.vmd_format.specs.ExportLaws.{take-in, export-by-places, scan-scanned, scan-counts, scan-length}
+use Rattle.vmd_laws.specs.Places.{scan-file}
+use Rattle.vmd_laws.specs.OpeningLaws.{ninth-enough}
+use Rattle.vmd_laws.specs.InsideLaws.{opened-scan}
+use Rattle.vmd_laws.specs.RefusalLaws.{Refuses, reading-numbers, enough-refuses}
+use Rattle.vmd_laws.specs.ExportLaws.{take-in, export-by-places, scan-scanned, scan-counts, scan-length}
 use Rattle.vmd_format.specs.Computed.{computed, start, u0}
 use Rattle.vmd_line.specs.Line.{tens-if, digits, decimal, spaced, row, too-long, refused-line, export-size, numbers, line-of, line-if, line, line-scratch-if, line-scratch}
 

@@ -9,7 +9,7 @@ use borrow.Author.Tests.{le-leb, lt-leb, eq-eqb, ne-eqb}
 use lib.ListN.{length, getD, drop, length-drop}
 use Rattle.vmd_format.specs.Bytes.{before-zero}
 use Rattle.vmd_format.specs.Names.{single, pair, unit, good}
-use Rattle.vmd_format.specs.NamesLaws.{unit-single, unit-cut, unit-two, unit-le, GoodTo, fault-step}
+use Rattle.vmd_laws.specs.NamesLaws.{unit-single, unit-cut, unit-two, unit-le, GoodTo, fault-step}
 use Rattle.vmd_format.specs.Refusal.{name-unfit, name-not-good}
 use Rattle.vmd_format.specs.Parts.{passes, fails, _next_, need, name-check}
 

@@ -8,10 +8,10 @@ use Rattle.vmd_format.specs.Bytes.{u32-bytes, padded}
 use Rattle.vmd_format.specs.Layout.{Layout}
 use Rattle.vmd_format.specs.Read.{Codec, fixed, table, write-all, write-counted}
 use Rattle.vmd_format.specs.Take.{property, Edition, magic-of, model-width, write-header}
-use Rattle.vmd_format.specs.Lengths.{magic-length, header-length}
+use Rattle.vmd_laws.specs.Lengths.{magic-length, header-length}
 use Rattle.vmd_format.specs.Opening.{Extent}
-use Rattle.vmd_format.specs.PlacesLaws.{table-length, frames-in}
-use Rattle.vmd_format.specs.ScanLaws.{frames-length}
+use Rattle.vmd_laws.specs.PlacesLaws.{table-length, frames-in}
+use Rattle.vmd_laws.specs.ScanLaws.{frames-length}
 use Rattle.vmd_bytes.specs.Slices.{splice}
 use Rattle.vmd_bytes.proofs.Laws.{splice-append-at}
 use Rattle.vmd_bytes.specs.Written.{Room, Wrote, Rest}

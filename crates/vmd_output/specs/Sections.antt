@@ -7,9 +7,9 @@ use Rattle.vmd_format.specs.Records.{Property}
 use Rattle.vmd_format.specs.Read.{table, write-all}
 use Rattle.vmd_format.specs.Take.{property}
 use Rattle.vmd_format.specs.Opening.{Extent}
-use Rattle.vmd_format.specs.Places.{Reaches}
-use Rattle.vmd_format.specs.PlacesLaws.{frames-in}
-use Rattle.vmd_format.specs.ScanLaws.{ExtentWithin}
+use Rattle.vmd_laws.specs.Places.{Reaches}
+use Rattle.vmd_laws.specs.PlacesLaws.{frames-in}
+use Rattle.vmd_laws.specs.ScanLaws.{ExtentWithin}
 
 -- records of one size lie in their files, and their counts added up fit
 pub record BothWithin (size : ℕ) (s : List ℕ) (p : Extent) (t : List ℕ) (q : Extent) : Type 0 where

@@ -13,14 +13,14 @@ use Rattle.vmd_format.specs.Records.{Bone, Morph, bone, morph}
 use Rattle.vmd_format.specs.Read.{table, fixed, write-all, write-counted}
 use Rattle.vmd_format.specs.Take.{newer, property, write-header, write-sections, write-edition, write-take}
 use Rattle.vmd_format.specs.Opening.{Extent}
-use Rattle.vmd_format.specs.Places.{Reaches}
-use Rattle.vmd_format.specs.PlacesLaws.{table-length}
+use Rattle.vmd_laws.specs.Places.{Reaches}
+use Rattle.vmd_laws.specs.PlacesLaws.{table-length}
 use Rattle.vmd_format.specs.Parts.{NameTable, Parts, records-of, is-got, frames, properties-of, upto, bone-at, morph-at, take-of-parts, passes, fails, parts-check, build, bone-check, morph-check}
-use Rattle.vmd_format.specs.PartsLaws.{build-given, build-refused}
+use Rattle.vmd_laws.specs.PartsLaws.{build-given, build-refused}
 use Rattle.vmd_records.specs.declared.VmdKind.{VmdKind}
 use Rattle.vmd_records.specs.declared.VmdKind.the-variants as kind
 use Rattle.vmd_records.specs.Kinds.{layout, size-of}
-use Rattle.vmd_format.specs.SizedLaws.{camera-sized, light-sized, self-shadow-sized}
+use Rattle.vmd_laws.specs.SizedLaws.{camera-sized, light-sized, self-shadow-sized}
 use Rattle.vmd_records.specs.KindLaws.{kind-sized}
 use Rattle.vmd_bytes.specs.Written.{Room, Wrote, Rest}
 use Rattle.vmd_bytes.proofs.Writes.{rest-as}

@@ -9,13 +9,13 @@ use lib.ListN.{length, length-map}
 use Rattle.vmd_format.specs.Refusal.{Refusal, parts-not-whole}
 use Rattle.vmd_format.specs.Answer.{Answer, declined, map-answer, fitted, within}
 use Rattle.vmd_format.specs.Take.{write-take}
-use Rattle.vmd_format.specs.Lengths.{export-length}
+use Rattle.vmd_laws.specs.Lengths.{export-length}
 use Rattle.vmd_format.specs.Opening.{ik-total}
 use Rattle.vmd_format.specs.Parts.{Parts, names-of, frames, properties-of, upto, bone-at, morph-at, take-of-parts, passes, fails, _next_, each, is-got, name-check, bone-check, morph-check, parts-check, build}
-use Rattle.vmd_format.specs.PartsLaws.{upto-length, next-passes, need-passes, Counts, counts-pass, Columns, columns-pass, build-given, build-refused}
-use Rattle.vmd_format.specs.SizedLaws.{camera-sized, light-sized, self-shadow-sized}
+use Rattle.vmd_laws.specs.PartsLaws.{upto-length, next-passes, need-passes, Counts, counts-pass, Columns, columns-pass, build-given, build-refused}
+use Rattle.vmd_laws.specs.SizedLaws.{camera-sized, light-sized, self-shadow-sized}
 use Rattle.vmd_output.proofs.Saves.{refused-answer, given-answer}
-use Rattle.vmd_format.specs.WalkLaws.{frames-total}
+use Rattle.vmd_laws.specs.WalkLaws.{frames-total}
 use Rattle.vmd_check_records.proofs.Properties.{properties-framed}
 use Rattle.vmd_checks.proofs.Whole.{Whole, whole-are, records-length, whole-same}
 

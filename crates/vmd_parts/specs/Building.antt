@@ -9,14 +9,14 @@ use lib.ListN.{length}
 use lib.Dec.{T}
 use lib.Ieee.{Float, binary32, fits}
 use lib.Ieee.Bits.{toBits-lt}
-use Rattle.vmd_format.specs.BytesLaws.{Bytes}
+use Rattle.vmd_laws.specs.BytesLaws.{Bytes}
 use Rattle.vmd_format.specs.Answer.{Answer, given, map-answer, fitted, left, file-left}
-use Rattle.vmd_format.specs.AnswerLaws.{left-whole, not-refused}
+use Rattle.vmd_laws.specs.AnswerLaws.{left-whole, not-refused}
 use Rattle.vmd_format.specs.Read.{Manner}
-use Rattle.vmd_format.specs.ReadLaws.{All}
-use Rattle.vmd_format.specs.SavingLaws.{Reads}
+use Rattle.vmd_laws.specs.ReadLaws.{All}
+use Rattle.vmd_laws.specs.SavingLaws.{Reads}
 use Rattle.vmd_format.specs.Parts.{Parts, take-of-parts, build}
-use Rattle.vmd_format.specs.PartsLaws.{Words, InRange, build-accepted}
+use Rattle.vmd_laws.specs.PartsLaws.{Words, InRange, build-accepted}
 use Rattle.vmd_check_columns.specs.Meaning.{bits}
 use Rattle.vmd_checks.specs.Meaning.{parts-of}
 

@@ -8,7 +8,7 @@ use lib.Seq.{drop-drop}
 use Rattle.vmd_format.specs.Layout.{Layout, number, flag, name, raw, _⊗_, as-record}
 use Rattle.vmd_format.specs.Answer.{Answer, declined, given, and-then, map-answer}
 use Rattle.vmd_format.specs.Records.{bone, morph, camera, light, self-shadow, ik-state}
-use Rattle.vmd_format.specs.SizedLaws.{bone-sized, morph-sized, camera-sized, light-sized, self-shadow-sized, ik-state-sized}
+use Rattle.vmd_laws.specs.SizedLaws.{bone-sized, morph-sized, camera-sized, light-sized, self-shadow-sized, ik-state-sized}
 use Rattle.vmd_format.specs.Opening.{Extent}
 use Rattle.vmd_format.specs.Fetch.{record-place, fetch, or-empty, property-place, ik-extent, fetch-ik-state}
 use Rattle.vmd_places.specs.Meaning.{ik-place}

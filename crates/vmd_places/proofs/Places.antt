@@ -14,8 +14,8 @@ use Rattle.vmd_format.specs.Refusal.{Refusal, outside}
 use Rattle.vmd_format.specs.Answer.{Answer, declined, given, and-then, unless}
 use Rattle.vmd_format.specs.Opening.{Extent}
 use Rattle.vmd_format.specs.Fetch.{record-place, next-frame, next-place, walk-frames, frame-place, property-place, ik-extent}
-use Rattle.vmd_format.specs.PlacesLaws.{Holds}
-use Rattle.vmd_format.specs.FetchLaws.{next-reaches, next-leaves}
+use Rattle.vmd_laws.specs.PlacesLaws.{Holds}
+use Rattle.vmd_laws.specs.FetchLaws.{next-reaches, next-leaves}
 use Rattle.vmd_places.specs.Meaning.{ik-place}
 
 module _ (size : ℕ) (p : Extent) (i : ℕ) (s : List ℕ) where

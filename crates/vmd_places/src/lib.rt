@@ -10,7 +10,7 @@ ghost use Prim.Native.Nat.{_+_, _≤_};
 ghost use lib.Dec.{leb};
 ghost use lib.ListN.{length, take, drop};
 ghost use Rattle.vmd_format.specs.Fetch.{record-place, next-place, walk-frames, frame-place, property-place};
-ghost use Rattle.vmd_format.specs.PlacesLaws.{Holds};
+ghost use Rattle.vmd_laws.specs.PlacesLaws.{Holds};
 ghost use Rattle.vmd_base.specs.Meaning.{extent-is};
 ghost use Rattle.vmd_places.specs.Meaning.{place-answer, ik-place};
 ghost use Rattle.vmd_places.specs.Parts.{file-part, part-in, name-in, there};

@@ -11,15 +11,15 @@ use Rattle.vmd_format.specs.Refusal.{Refusal, scratch-too-short}
 use Rattle.vmd_format.specs.Answer.{Answer, declined, given, and-then, map-answer, unless}
 use Rattle.vmd_format.specs.Read.{Manner}
 use Rattle.vmd_format.specs.Opening.{places-needed, Extent, Scan, open-file, scratch-if, scratch-after}
-use Rattle.vmd_format.specs.Places.{scan-file, sixteenth-places, opening-at, open-scan, scan-scratch}
-use Rattle.vmd_format.specs.OpeningLaws.{open-by-places, scratch-by-places}
-use Rattle.vmd_format.specs.FetchLaws.{places-length}
+use Rattle.vmd_laws.specs.Places.{scan-file, sixteenth-places, opening-at, open-scan, scan-scratch}
+use Rattle.vmd_laws.specs.OpeningLaws.{open-by-places, scratch-by-places}
+use Rattle.vmd_laws.specs.FetchLaws.{places-length}
 use Rattle.vmd_format.specs.Fetch.{record-place, fetch, next-place, property-place, property-at, fetch-property, step-property, fetch-ik-state}
 use Rattle.vmd_format.specs.Records.{ik-state}
 use Rattle.vmd_records.specs.declared.VmdParsedPropertyFrame.{VmdParsedPropertyFrame}
 use Rattle.vmd_records.specs.Fields.{property-fields}
-use Rattle.vmd_scan.specs.declared.VmdFrames.{VmdFrames}
-use Rattle.vmd_scan.specs.Frames.{frames-of}
+use Rattle.vmd_frames.specs.declared.VmdFrames.{VmdFrames}
+use Rattle.vmd_frames.specs.Frames.{frames-of}
 use Rattle.vmd_places.specs.Meaning.{ik-place}
 use Rattle.vmd_places.proofs.Fields.{ik-is}
 use Rattle.vmd_reader.specs.Meaning.{step-fields}

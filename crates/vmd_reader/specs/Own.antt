@@ -14,7 +14,7 @@ use Rattle.vmd_format.specs.Read.{Manner}
 use Rattle.vmd_format.specs.Take.{Take, read-take}
 use Rattle.vmd_format.specs.Opening.{Extent, Opening, open-file, scratch-after}
 use Rattle.vmd_format.specs.Fetch.{fetch, or-empty, model-of, fetch-property, step-property, fetch-ik-state}
-use Rattle.vmd_format.specs.FetchLaws.{Fetches, FetchesProperties, Steps, own-records, head-of, fetches-fields, fetches-part, past-fields, past-part}
+use Rattle.vmd_laws.specs.FetchLaws.{Fetches, FetchesProperties, Steps, own-records, head-of, fetches-fields, fetches-part, past-fields, past-part}
 use Rattle.vmd_records.specs.Fields.{bone-fields, morph-fields, camera-fields, light-floats, light-bits, self-shadow-fields, property-fields, ik-fields}
 use Rattle.vmd_reader.specs.Meaning.{step-fields}
 

@@ -20,8 +20,8 @@ ghost use Rattle.vmd_format.specs.Answer.{given, map-answer};
 ghost use Rattle.vmd_format.specs.Records.{bone, morph, camera, light, self-shadow};
 ghost use Rattle.vmd_format.specs.Read.{lenient};
 ghost use Rattle.vmd_format.specs.Opening.{open-file, scratch-after};
-ghost use Rattle.vmd_format.specs.Places.{open-scan, scan-scratch};
-ghost use Rattle.vmd_format.specs.ScanLaws.{Inside};
+ghost use Rattle.vmd_laws.specs.Places.{open-scan, scan-scratch};
+ghost use Rattle.vmd_laws.specs.ScanLaws.{Inside};
 ghost use Rattle.vmd_format.specs.Fetch.{record-place, fetch, or-empty, model-of, fetch-property, step-property, fetch-ik-state};
 ghost use Rattle.vmd_records.specs.Fields.{bone-fields, morph-fields, camera-fields, light-floats, light-bits, self-shadow-fields, property-fields, ik-fields};
 ghost use Rattle.vmd_base.specs.Meaning.{manner-of};
@@ -100,11 +100,11 @@ fn open_sections(file: &[u8], sections: VmdSections, scratch: &mut [u64]) -> Vmd
     ensures { λ r. ⌜ now (scratch .exit) ≡ scan-scratch (now (file .entry)) (now (scratch .entry)) (given (scan-is sections)) ⌝ }
 {
     let properties = sections.properties;
-    if scratch.len() < vmd_scan::places_needed(properties.count) {
+    if scratch.len() < vmd_frames::places_needed(properties.count) {
         return VmdOpened::Refused(VmdRefusal::ScratchTooShort);
     }
-    let frames = vmd_scan::frames_of(file, sections);
-    vmd_scan::write_frame_places(file, properties, scratch);
+    let frames = vmd_frames::frames_of(file, sections);
+    vmd_frames::write_frame_places(file, properties, scratch);
     VmdOpened::Opened(VmdOpening {
         sections,
         min_frame: frames.smallest,
@@ -333,13 +333,13 @@ pub fn ik_name<'a>(
 pub fn model_part(file: &[u8]) -> VmdPart
     ensures { λ r. ⌜ r ≡ file-part 30 (length (model-of (now (file .entry)))) ⌝ }
 {
-    vmd_scan::model_part(file)
+    vmd_header::model_part(file)
 }
 
 pub fn model_name<'a>(file: &'a [u8]) -> &'a [u8]
     ensures { λ r. ⌜ now r ≡ model-of (now (file .entry)) ⌝ }
 {
-    vmd_scan::model_name(file)
+    vmd_header::model_name(file)
 }
 
 pub fn bone_interpolation_part(file: &[u8], opening: VmdOpening, i: usize) -> VmdPart

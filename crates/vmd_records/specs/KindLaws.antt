@@ -1,5 +1,5 @@
 -- A record of a kind has the kind's size. Assumes nothing.
-use Rattle.vmd_format.specs.SizedLaws.{Sized, bone-sized, morph-sized, camera-sized, light-sized, self-shadow-sized}
+use Rattle.vmd_laws.specs.SizedLaws.{Sized, bone-sized, morph-sized, camera-sized, light-sized, self-shadow-sized}
 use Rattle.vmd_records.specs.declared.VmdKind.{VmdKind}
 use Rattle.vmd_records.specs.declared.VmdKind.the-variants as kind
 use Rattle.vmd_records.specs.Kinds.{layout, size-of}

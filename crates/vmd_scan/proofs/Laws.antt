@@ -18,10 +18,10 @@ use Rattle.vmd_format.specs.Read.{Oversized, refuse, Manner}
 use Rattle.vmd_format.specs.Take.{sections}
 use Rattle.vmd_format.specs.Opening.{places-needed}
 use Rattle.vmd_format.specs.Fetch.{model-of, next-frame}
-use Rattle.vmd_format.specs.Places.{header-place, HeaderPlaces, header-places, Span, extent-in, no-span, records-span, count-span, span, optional-if, optional-span, walk, scan-sections, Reaches, frame-end, sixteenth-places}
-use Rattle.vmd_format.specs.PlacesLaws.{Holds, Within, optional-within, walk-next}
-use Rattle.vmd_format.specs.WalkLaws.{reaches-split}
-use Rattle.vmd_format.specs.ScanLaws.{Headed, headed, no-model}
+use Rattle.vmd_laws.specs.Places.{header-place, HeaderPlaces, header-places, Span, extent-in, no-span, records-span, count-span, span, optional-if, optional-span, walk, scan-sections, Reaches, frame-end, sixteenth-places}
+use Rattle.vmd_laws.specs.PlacesLaws.{Holds, Within, optional-within, walk-next}
+use Rattle.vmd_laws.specs.WalkLaws.{reaches-split}
+use Rattle.vmd_laws.specs.ScanLaws.{Headed, headed, no-model}
 use Rattle.vmd_places.specs.Parts.{file-part, Cuts, name-in}
 use Rattle.vmd_places.proofs.Parts.{front-name, no-bytes, front-cuts}
 use Rattle.vmd_scan.specs.Stages.{Numbered, number-if, read-number, Optional, nothing, there, optional-number-if, optional-number, counted-if, counted-span, Back, scan-front, scan-back, scan-end}
@@ -81,45 +81,6 @@ module _ (o : Oversized) (size : ℕ) (s : List ℕ) (at : ℕ) where
 
 -- ---- the header, three sections, three more, and the end are the scan
 
-module _ (s : List ℕ) where
-  header-told : (x : Answer ℕ) (h : HeaderPlaces) → map-answer header-places x ≡ given h → x ≡ given (h .sections) × header-places (h .sections) ≡ h
-  unfolding map-answer
-  header-told (declined k) h e = let z : _≡_ {A = ℕ} 0 1 = cc in absurd (omega arith)
-  header-told (given at) h e = let q : header-places at ≡ h = cc in (rw (← q) refl, rw (← q) refl)
-
-  -- a header that is read
-  module _ (h : HeaderPlaces) (e : map-answer header-places (header-place s) ≡ given h) where
-    pub sections-begin : header-place s ≡ given (h .sections)
-    sections-begin = header-told (header-place s) h e .0
-
-    pub name-begins : h .name ≡ 30
-    name-begins = sym (ap (λ h. h .name) (header-told (header-place s) h e .1))
-
-    pub header-headed : Headed s h
-    header-headed = rw (header-told (header-place s) h e .1) at (headed s (h .sections) sections-begin)
-
-  -- and one that is refused
-  pub header-refused : (k : Refusal) → map-answer header-places (header-place s) ≡ declined k → header-place s ≡ declined k
-  unfolding map-answer
-  header-refused k e = go (header-place s) e
-    where
-      go : (x : Answer ℕ) → map-answer header-places x ≡ declined k → x ≡ declined k
-      go (declined j) q = let z : j ≡ k = cc in rw z refl
-      go (given at) q = let z : _≡_ {A = ℕ} 0 1 = cc in absurd (omega arith)
-
-  pub no-part : (k : Refusal) → map-answer header-places (header-place s) ≡ declined k → record { at = 0; len = 0 } ≡ file-part 30 (length (model-of s))
-  unfolding file-part
-  no-part k e = rw (no-model s k (header-refused k e)) refl
-
-  -- the model name stands where its part says
-  pub model-cuts : Cuts s (file-part 30 (length (model-of s))) (model-of s)
-  unfolding file-part name-in
-  model-cuts = go (header-place s) refl
-    where
-      go : (x : Answer ℕ) → header-place s ≡ x → Cuts s (file-part 30 (length (model-of s))) (model-of s)
-      go (declined k) q = rw (no-model s k q) (no-bytes s)
-      go (given at) q = rw (headed s at q .named) at (front-cuts (front-name (at - 30)) s 30)
-
 and-then-assoc : {A B C : Type 0} (x : Answer A) (f : A → Answer B) (g : B → Answer C)
     → and-then (and-then x f) g ≡ and-then x (λ a. and-then (f a) g)
 unfolding and-then
@@ -169,58 +130,3 @@ pub walk-turn : (s : List ℕ) (n i at total k : ℕ) → i < n → at + 9 ≤ l
 walk-turn s n i at total k h l e o =
     let d : n - i - 1 ≡ n - (i + 1) = omega arith in
     sym (walk-next s (n - i) at total k (omega arith) l e o ∙ rw d)
-
--- a turn of a loop over n frames that is at frame i
-module _ (s : List ℕ) (n i at : ℕ) (h : i < n) where
-  left : n - i ≡ suc (n - (i + 1))
-  left = omega arith
-
-  pub reaches-next : Reaches s (n - i) at → (next-frame s at ≤ length s) × Reaches s (n - (i + 1)) (next-frame s at)
-  unfolding Reaches
-  reaches-next r = rw left at r
-
-  pub frame-end-next : frame-end s (n - i) at ≡ frame-end s (n - (i + 1)) (next-frame s at)
-  unfolding frame-end
-  frame-end-next = rw left
-
-pub frame-end-done : (s : List ℕ) (n at : ℕ) → n ≡ 0 → frame-end s n at ≡ at
-unfolding frame-end
-frame-end-done s n at e = rw e
-
--- a turn of the loop over the n places of k frames that is at place j, with m frames left
-module _ (s : List ℕ) (k n j m at : ℕ) (f : n ≡ places-needed k) (h : j < n) (e : m ≡ k - 16 * j) where
-  pub reaches-more : Reaches s m at → Reaches s (min m 16) at × Reaches s (m - min m 16) (frame-end s (min m 16) at)
-  reaches-more r = let q : m ≡ min m 16 + (m - min m 16) = omega arith in reaches-split s (min m 16) (m - min m 16) at (rw q at r)
-
-  -- sixteen frames are walked over, but after the last place
-  places-rest : (i : ℕ) → i ≡ n - (j + 1) → sixteenth-places s i (frame-end s 16 at) ≡ sixteenth-places s i (frame-end s (min m 16) at)
-  unfolding sixteenth-places places-needed
-  places-rest zero q = refl
-  places-rest (suc i) q = let w : min m 16 ≡ 16 = omega (arith, f) in rw w
-
-  pub places-next : (scratch all : List ℕ) → j < length scratch → take j scratch ++ (sixteenth-places s (n - j) at ++ drop n scratch) ≡ all
-      → take (j + 1) (set scratch j at) ++ (sixteenth-places s (n - (j + 1)) (frame-end s (min m 16) at) ++ drop n (set scratch j at)) ≡ all
-  unfolding sixteenth-places
-  places-next scratch all l q =
-      let i = n - (j + 1) in
-      let left : n - j ≡ suc i = omega arith in
-      let p : take j scratch ++ (at ∷ (sixteenth-places s i (frame-end s 16 at) ++ drop n scratch)) ≡ all = rw left at q in
-      let t : take (j + 1) (set scratch j at) ≡ take j scratch ++ (at ∷ []) = rw add-one (take-suc-set scratch j at l) in
-      rw (t, drop-set-lt n scratch j at h, append-assoc, ← places-rest i refl) p
-
--- all n places are written
-pub places-done : (s : List ℕ) (n j at : ℕ) (scratch all : List ℕ) → j ≡ n → take j scratch ++ (sixteenth-places s (n - j) at ++ drop n scratch) ≡ all → scratch ≡ all
-unfolding sixteenth-places
-places-done s n j at scratch all h q =
-    let z : n - j ≡ 0 = omega arith in
-    sym (take-append-drop n scratch) ∙ (rw (z, h) at q)
-
--- ---- records of one size
-
-module _ (s : List ℕ) (size n i at : ℕ) where
-  -- the record of a turn lies in the file, and what is left after it
-  pub record-inside : i < n → at + (n - i) * size ≤ length s → at + size + (n - (i + 1)) * size ≤ length s
-  record-inside h l =
-      let e : n - i ≡ suc (n - (i + 1)) = omega arith in
-      let p : at + suc (n - (i + 1)) * size ≤ length s = rw e at l in
-      omega arith

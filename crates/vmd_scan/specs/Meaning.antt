@@ -3,7 +3,7 @@ use Rattle.vmd_base.specs.Meaning.{refusal-of, extent-is}
 use Rattle.vmd_format.specs.Answer.{Answer, declined, given}
 use Rattle.vmd_format.specs.Read as format
 use Rattle.vmd_format.specs.Opening.{Scan}
-use Rattle.vmd_format.specs.Places.{HeaderPlaces, Span, Walk}
+use Rattle.vmd_laws.specs.Places.{Span, Walk}
 use Rattle.vmd_scan.specs.Stages.{Numbered, Optional, nothing, there, Front, Back}
 use Rattle.vmd_scan.specs.declared.VmdSections.{VmdSections}
 use Rattle.vmd_scan.specs.declared.Oversized.{Oversized}
@@ -16,8 +16,6 @@ use Rattle.vmd_scan.specs.declared.OptionalNumber.{OptionalNumber}
 use Rattle.vmd_scan.specs.declared.OptionalNumber.the-variants as optional
 use Rattle.vmd_scan.specs.declared.SectionAnswer.{SectionAnswer}
 use Rattle.vmd_scan.specs.declared.SectionAnswer.the-variants as section
-use Rattle.vmd_scan.specs.declared.HeaderAnswer.{HeaderAnswer}
-use Rattle.vmd_scan.specs.declared.HeaderAnswer.the-variants as header
 use Rattle.vmd_scan.specs.declared.WalkAnswer.{WalkAnswer}
 use Rattle.vmd_scan.specs.declared.WalkAnswer.the-variants as walk
 use Rattle.vmd_scan.specs.declared.ScanAnswer.{ScanAnswer}
@@ -64,10 +62,6 @@ optional-answer (optional.Value n r) = given (there (record { value = n; next = 
 abbrev pub span-answer : SectionAnswer → Answer Span
 span-answer (section.Refused k) = declined (refusal-of k)
 span-answer (section.Found x r) = given (record { count = x .count; place = x .place; next = r .pos })
-
-abbrev pub header-answer : HeaderAnswer → Answer HeaderPlaces
-header-answer (header.Refused k) = declined (refusal-of k)
-header-answer (header.Read h) = given (record { name = h .name; width = h .width; sections = h .sections .pos })
 
 abbrev pub walk-answer : WalkAnswer → Answer Walk
 walk-answer (walk.Refused k) = declined (refusal-of k)

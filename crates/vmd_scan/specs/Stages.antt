@@ -10,7 +10,7 @@ use Rattle.vmd_format.specs.Refusal.{file-ends-early}
 use Rattle.vmd_format.specs.Answer.{Answer, declined, given, and-then, map-answer}
 use Rattle.vmd_format.specs.Read.{Oversized, refuse, BytesOver}
 use Rattle.vmd_format.specs.Opening.{Extent, Scan}
-use Rattle.vmd_format.specs.Places.{Span, extent-in, over-span, optional-span, span, walk, over-if}
+use Rattle.vmd_laws.specs.Places.{Span, extent-in, over-span, optional-span, span, walk, over-if}
 
 -- ---- numbers
 

@@ -1,16 +1,9 @@
-// Finding the sections of a file by places: the cursor, the header, the section counts and the property frames. Internal:
-// callers see to the lengths where a contract asks it.
-use vmd_base::FRAMES_PER_PLACE;
-use vmd_base::MAGIC_COMPARED;
-use vmd_base::MAGIC_SIZE;
-use vmd_base::OLDER_MAGIC;
-use vmd_base::VMD_MAGIC;
-use vmd_base::VmdEdition;
+// Finding the sections of a file by places: the cursor, the section counts and the property frames. Internal: callers see to
+// the lengths where a contract asks it.
 use vmd_base::VmdManner;
-use vmd_base::VmdPart;
 use vmd_base::VmdRefusal;
 use vmd_base::VmdSection;
-use vmd_records::VmdKind;
+use vmd_header::HeaderAnswer;
 use vmd_records::VmdParsedBoneFrame;
 use vmd_records::VmdParsedCameraFrame;
 use vmd_records::VmdParsedIkState;
@@ -19,22 +12,15 @@ use vmd_records::VmdParsedMorphFrame;
 use vmd_records::VmdParsedPropertyFrame;
 use vmd_records::VmdParsedSelfShadowFrame;
 ghost use mathlib.Core.Path.{_≡_};
-ghost use mathlib.Core.List.{_++_};
 ghost use Prim.Native.Nat.{_+_, _*_, _-_, _≤_};
 ghost use lib.Dec.{leb};
 ghost use lib.ListN.{length, drop};
 ghost use Rattle.vmd_format.specs.Answer.{given, map-answer};
-ghost use Rattle.vmd_format.specs.Take.{model-width};
-ghost use Rattle.vmd_format.specs.Fetch.{model-of, next-frame};
-ghost use Rattle.vmd_format.specs.Places.{header-place, place-past, header-places, no-span, over-span, span, optional-span, walk, over-if, scan-sections, scan-file, frame-end, sixteenth-places, scan-frames, Reaches};
-ghost use Rattle.vmd_format.specs.Opening.{places-needed};
-ghost use Rattle.vmd_format.specs.ScanLaws.{ExtentWithin, Inside};
-ghost use Rattle.vmd_base.specs.Meaning.{edition-is, manner-of, extent-is};
-ghost use Rattle.vmd_records.specs.Kinds.{size-of};
-ghost use Rattle.vmd_places.specs.Parts.{file-part};
+ghost use Rattle.vmd_format.specs.Fetch.{next-frame};
+ghost use Rattle.vmd_laws.specs.Places.{no-span, over-span, span, optional-span, walk, over-if, scan-sections, scan-file};
+ghost use Rattle.vmd_base.specs.Meaning.{manner-of};
 ghost use Rattle.vmd_scan.specs.Stages.{read-number, optional-number, counted-span, scan-front, scan-back, scan-joined, scan-end};
-ghost use Rattle.vmd_scan.specs.Frames.{no-frames, with-frame, with-frames, with-records, with-properties, frames-of};
-ghost use Rattle.vmd_scan.specs.Meaning.{oversized-of, over-of, scan-is, header-answer, number-answer, optional-answer, span-answer, walk-answer, front-is, back-is, front-answer, back-answer, scan-answer};
+ghost use Rattle.vmd_scan.specs.Meaning.{oversized-of, over-of, scan-is, number-answer, optional-answer, span-answer, walk-answer, front-is, back-is, front-answer, back-answer, scan-answer};
 
 // ---- types
 
@@ -79,18 +65,6 @@ pub enum OptionalNumber {
 pub enum SectionAnswer {
     Refused(VmdRefusal),
     Found(VmdSection, ByteReader),
-}
-
-// What a header says of places: the field of the model name, and where the sections begin.
-pub struct VmdHeader {
-    pub name: usize,
-    pub width: usize,
-    pub sections: ByteReader,
-}
-
-pub enum HeaderAnswer {
-    Refused(VmdRefusal),
-    Read(VmdHeader),
 }
 
 pub enum WalkAnswer {
@@ -283,57 +257,6 @@ impl ByteReader {
     }
 }
 
-// ---- the header
-
-// The header of a file that is of this edition.
-fn header_of(file: &[u8], edition: VmdEdition) -> HeaderAnswer
-    ensures { λ r. ⌜ header-answer r ≡ map-answer header-places (place-past (model-width (edition-is edition)) (now (file .entry))) ⌝ }
-{
-    let width = edition.model_width();
-    if file.len() < MAGIC_SIZE + width {
-        return HeaderAnswer::Refused(VmdRefusal::FileEndsEarly);
-    }
-    HeaderAnswer::Read(VmdHeader {
-        name: MAGIC_SIZE,
-        width,
-        sections: ByteReader {
-            pos: MAGIC_SIZE + width,
-        },
-    })
-}
-
-pub fn read_header(file: &[u8]) -> HeaderAnswer
-    ensures { λ r. ⌜ header-answer r ≡ map-answer header-places (header-place (now (file .entry))) ⌝ }
-{
-    if file.len() < MAGIC_SIZE {
-        return HeaderAnswer::Refused(VmdRefusal::FileEndsEarly);
-    }
-    if vmd_bytes::same_start(file, &VMD_MAGIC, MAGIC_COMPARED) {
-        return header_of(file, VmdEdition::Newer);
-    }
-    if vmd_bytes::same_start(file, &OLDER_MAGIC, MAGIC_COMPARED) {
-        return header_of(file, VmdEdition::Older);
-    }
-    HeaderAnswer::Refused(VmdRefusal::MagicDiffers)
-}
-
-// Where the model name stands; nowhere where the header is refused.
-pub fn model_part(file: &[u8]) -> VmdPart
-    ensures { λ r. ⌜ r ≡ file-part 30 (length (model-of (now (file .entry)))) ⌝ }
-{
-    match read_header(file) {
-        HeaderAnswer::Refused(_) => VmdPart { at: 0, len: 0 },
-        HeaderAnswer::Read(header) => vmd_places::name_at(file, header.name, header.width),
-    }
-}
-
-// The model name; empty where the header is refused.
-pub fn model_name<'a>(file: &'a [u8]) -> &'a [u8]
-    ensures { λ r. ⌜ now r ≡ model-of (now (file .entry)) ⌝ }
-{
-    vmd_places::cut(file, model_part(file))
-}
-
 // ---- property frames
 
 // Over n property frames from a place on: where they end, and their IK states.
@@ -370,111 +293,6 @@ pub fn next_property_frame(file: &[u8], at: usize) -> usize
 {
     let count = vmd_bytes::read_u32_le(file, at + VmdParsedPropertyFrame::IK_COUNT_OFFSET);
     at + VmdParsedPropertyFrame::SIZE + (count as usize) * VmdParsedIkState::SIZE
-}
-
-// Where n property frames from a place on end.
-fn frame_end(file: &[u8], place: usize, n: usize) -> usize
-    requires { ⌜ Reaches (now file) n place ⌝ }
-    ensures { λ r. ⌜ r ≡ frame-end (now (file .entry)) n place ⌝ }
-{
-    let mut at = place;
-    let mut i = 0;
-    while i < n {
-        at = next_property_frame(file, at);
-        i += 1;
-    }
-    at
-}
-
-// The places that the property frames of a section need in scratch: a sixteenth of their number, rounded up.
-pub fn places_needed(count: u32) -> usize
-    ensures { λ r. ⌜ r ≡ places-needed count ⌝ }
-{
-    ((count as usize) + (FRAMES_PER_PLACE - 1)) / FRAMES_PER_PLACE
-}
-
-// The position of every sixteenth property frame, into the first places of scratch.
-pub fn write_frame_places(file: &[u8], section: VmdSection, scratch: &mut [u64])
-    requires { ⌜ (places-needed (section .count) ≤ length (now scratch)) × (Reaches (now file) (section .count) (section .place)) ⌝ }
-    ensures { λ _. ⌜ now (scratch .exit) ≡ sixteenth-places (now (file .entry)) (places-needed (section .count)) (section .place) ++ drop (places-needed (section .count)) (now (scratch .entry)) ⌝ }
-{
-    let n = places_needed(section.count);
-    let mut left = section.count;
-    let mut at = section.place;
-    let mut j = 0;
-    while j < n {
-        scratch[j] = at as u64;
-        let walked = vmd_bytes::smaller(left, FRAMES_PER_PLACE as u32);
-        at = frame_end(file, at, walked as usize);
-        left -= walked;
-        j += 1;
-    }
-}
-
-// ---- frames
-
-// The smallest and the largest frame of a file, or of what a pass has seen of it: handed on from record to record and from
-// section to section.
-pub struct VmdFrames {
-    pub smallest: u32,
-    pub largest: u32,
-}
-
-impl VmdFrames {
-    // Before any frame: no frame is above the first or below the second.
-    fn none() -> VmdFrames
-        ensures { λ r. ⌜ r ≡ no-frames ⌝ }
-    {
-        VmdFrames {
-            smallest: 4294967295,
-            largest: 0,
-        }
-    }
-
-    fn with_frame(self, frame: u32) -> VmdFrames
-        ensures { λ r. ⌜ r ≡ with-frame self frame ⌝ }
-    {
-        VmdFrames {
-            smallest: vmd_bytes::smaller(self.smallest, frame),
-            largest: vmd_bytes::larger(self.largest, frame),
-        }
-    }
-}
-
-// The frames of a section's records, after others.
-fn with_records(file: &[u8], kind: VmdKind, section: VmdSection, before: VmdFrames) -> VmdFrames
-    requires { ⌜ ExtentWithin (size-of kind) (now file) (extent-is section) ⌝ }
-    ensures { λ r. ⌜ r ≡ with-records kind (now (file .entry)) (extent-is section) before ⌝ }
-{
-    let size = kind.size();
-    let offset = kind.frame_offset();
-    let n = section.count as usize;
-    let mut frames = before;
-    let mut at = section.place;
-    let mut i = 0;
-    while i < n {
-        frames = frames.with_frame(vmd_bytes::read_u32_le(file, at + offset));
-        at += size;
-        i += 1;
-    }
-    frames
-}
-
-// The property frames', after others.
-fn with_properties(file: &[u8], section: VmdSection, before: VmdFrames) -> VmdFrames
-    requires { ⌜ Reaches (now file) (section .count) (section .place) ⌝ }
-    ensures { λ r. ⌜ r ≡ with-properties (now (file .entry)) (extent-is section) before ⌝ }
-{
-    let n = section.count as usize;
-    let mut frames = before;
-    let mut at = section.place;
-    let mut i = 0;
-    while i < n {
-        frames = frames.with_frame(vmd_bytes::read_u32_le(file, at));
-        at = next_property_frame(file, at);
-        i += 1;
-    }
-    frames
 }
 
 // ---- the whole file
@@ -609,60 +427,13 @@ pub fn scan_sections(file: &[u8], start: ByteReader, manner: VmdManner) -> ScanA
 pub fn scan_file(file: &[u8], manner: VmdManner) -> ScanAnswer
     ensures { λ r. ⌜ scan-answer r ≡ scan-file (manner-of manner) (now (file .entry)) ⌝ }
 {
-    match read_header(file) {
+    match vmd_header::read_header(file) {
         HeaderAnswer::Refused(k) => ScanAnswer::Refused(k),
-        HeaderAnswer::Read(header) => scan_sections(file, header.sections, manner),
+        HeaderAnswer::Read(header) => {
+            let start = ByteReader {
+                pos: header.sections,
+            };
+            scan_sections(file, start, manner)
+        }
     }
-}
-
-// The frames of a scanned file, in one pass over its sections.
-fn all_frames(file: &[u8], sections: VmdSections) -> VmdFrames
-    requires { ⌜ Inside (now file) (scan-is sections) ⌝ }
-    ensures { λ r. ⌜ r ≡ with-frames no-frames (scan-frames (now (file .entry)) (scan-is sections)) ⌝ }
-{
-    let bones = with_records(file, VmdKind::Bone, sections.bones, VmdFrames::none());
-    let morphs = with_records(file, VmdKind::Morph, sections.morphs, bones);
-    let cameras = with_records(file, VmdKind::Camera, sections.cameras, morphs);
-    let lights = with_records(file, VmdKind::Light, sections.lights, cameras);
-    let self_shadows = with_records(file, VmdKind::SelfShadow, sections.self_shadows, lights);
-    with_properties(file, sections.properties, self_shadows)
-}
-
-// The records of all six sections.
-pub fn record_count(
-    bones: u32,
-    morphs: u32,
-    cameras: u32,
-    lights: u32,
-    self_shadows: u32,
-    properties: u32,
-) -> u64
-    ensures { λ r. ⌜ r ≡ bones + morphs + cameras + lights + «self_shadows» + properties ⌝ }
-{
-    let front = (bones as u64) + (morphs as u64) + (cameras as u64);
-    let back = (lights as u64) + (self_shadows as u64) + (properties as u64);
-    front + back
-}
-
-// The smallest and the largest frame of a scanned file. Whether there are any is told by the counts: a frame may be the
-// largest number there is.
-pub fn frames_of(file: &[u8], sections: VmdSections) -> VmdFrames
-    requires { ⌜ Inside (now file) (scan-is sections) ⌝ }
-    ensures { λ r. ⌜ r ≡ frames-of (now (file .entry)) (scan-is sections) ⌝ }
-{
-    let records = record_count(
-        sections.bones.count,
-        sections.morphs.count,
-        sections.cameras.count,
-        sections.lights.count,
-        sections.self_shadows.count,
-        sections.properties.count,
-    );
-    if records == 0 {
-        return VmdFrames {
-            smallest: 0,
-            largest: 0,
-        };
-    }
-    all_frames(file, sections)
 }

@@ -12,10 +12,10 @@ use Rattle.vmd_format.specs.Answer.{declined, given, map-answer}
 use Rattle.vmd_format.specs.Read.{Manner}
 use Rattle.vmd_format.specs.Take.{take-of}
 use Rattle.vmd_format.specs.Opening.{Scan}
-use Rattle.vmd_format.specs.Places.{scan-file}
-use Rattle.vmd_format.specs.PlacesLaws.{section-in}
-use Rattle.vmd_format.specs.ScanLaws.{file-in}
-use Rattle.vmd_format.specs.ExportLaws.{take-in, take-by-places, Scanned, scan-counts}
+use Rattle.vmd_laws.specs.Places.{scan-file}
+use Rattle.vmd_laws.specs.PlacesLaws.{section-in}
+use Rattle.vmd_laws.specs.ScanLaws.{file-in}
+use Rattle.vmd_laws.specs.ExportLaws.{take-in, take-by-places, Scanned, scan-counts}
 use Rattle.vmd_keys.specs.Names.{names-in, bone-names-of, morph-names-of, distinct}
 use Rattle.vmd_keys.specs.NameLaws.{bone-names, morph-names}
 use Rattle.vmd_season.specs.Season.{SectionFigures, Season, TakeFigures, figures-of, records-of, largest-figure, in-64-bits, take-fits, with-count, with-take, with-refused, taken-if, with-answer, with-file}

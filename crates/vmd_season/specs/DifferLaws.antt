@@ -17,7 +17,7 @@ use Rattle.vmd_format.specs.Answer.{Answer, declined, given, map-answer}
 use Rattle.vmd_format.specs.Records.{Bone, Camera, IkState, Property, bone, morph, camera, light, self-shadow, ik-state, property-head}
 use Rattle.vmd_format.specs.Read.{Step, refused, got, Reader, bind, Codec, whole, whole-if, fixed, many, table, Section, no-section, Oversized, refuse, emptied, over-count, records-if, counted-if, counted, optional, BytesOver, ignored, turned-down, Manner}
 use Rattle.vmd_format.specs.Take.{property, Take, File, take-of, Edition, model-width, edition, model-if, magic-if, header-if, header, ended, sections, read-file, answer, read-take}
-use Rattle.vmd_format.specs.PlacesLaws.{many-table}
+use Rattle.vmd_laws.specs.PlacesLaws.{many-table}
 use Rattle.vmd_season.specs.Differ.{Differing, names, names-and-interpolation, Stretch, named, interpolating, others, wide, SameName, SameStretch, bone-stretches, morph-stretches, camera-stretches, light-stretches, self-shadow-stretches, ik-state-stretches, width, SameRecord, SameRecords, SameFrames, SameSections, all-stretches, field-width, DifferOnly, bone-without, camera-without, without-interpolation}
 
 -- ---- bytes

@@ -9,7 +9,7 @@ use lib.ListN.{length, length-append, length-map}
 use lib.Dec.{eqb}
 use Rattle.vmd_format.specs.Answer.{Answer, declined, given}
 use Rattle.vmd_format.specs.Read.{Manner}
-use Rattle.vmd_format.specs.ReadLaws.{All, all-append}
+use Rattle.vmd_laws.specs.ReadLaws.{All, all-append}
 use Rattle.vmd_format.specs.Take.{Take, read-take}
 use Rattle.vmd_keys.specs.Names.{bone-names-of, morph-names-of}
 use Rattle.vmd_count.specs.DistinctLaws.{distinct-short}

@@ -9,7 +9,7 @@ ghost use mathlib.Core.Path.{_≡_};
 ghost use mathlib.Core.Bool.{true, _&&_};
 ghost use Prim.Native.Nat.{_+_, _≤_, min};
 ghost use Rattle.vmd_format.specs.Read.{lenient};
-ghost use Rattle.vmd_format.specs.ExportLaws.{take-in, Scanned};
+ghost use Rattle.vmd_laws.specs.ExportLaws.{take-in, Scanned};
 ghost use Rattle.vmd_scan.specs.Meaning.{scan-is};
 ghost use Rattle.vmd_season.specs.Season.{no-takes, figures-of, records-of, largest-figure, in-64-bits, totals-fit, take-fits, with-count, with-take, with-refused, taken-if, with-file, mean};
 ghost use Rattle.vmd_season.specs.Meaning.{section-is, season-is, take-is, mean-is};
@@ -91,7 +91,7 @@ fn figures_of(file: &[u8], a: VmdSections) -> VmdTakeFigures
 fn records_of(f: VmdTakeFigures) -> u64
     ensures { λ r. ⌜ r ≡ records-of (take-is f) ⌝ }
 {
-    vmd_scan::record_count(
+    vmd_frames::record_count(
         f.bones,
         f.morphs,
         f.cameras,

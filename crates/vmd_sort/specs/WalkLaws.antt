@@ -5,7 +5,7 @@ use mathlib.Core.List.{List, [], _∷_, _++_}
 use native.Mathlib.Omega.{arith}
 use lib.ListN.{length, drop}
 use Rattle.vmd_format.specs.Bytes.{u32}
-use Rattle.vmd_format.specs.ReadLaws.{All}
+use Rattle.vmd_laws.specs.ReadLaws.{All}
 use Rattle.vmd_format.specs.Fetch.{next-frame}
 use Rattle.vmd_tracks.specs.TrackLaws.{Sorted}
 use Rattle.vmd_sort.specs.Walk.{step, places-by, end-by}

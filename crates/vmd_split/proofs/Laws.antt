@@ -12,19 +12,19 @@ use Rattle.vmd_format.specs.Records.{bone, morph}
 use Rattle.vmd_format.specs.Read.{Manner, table, write-all}
 use Rattle.vmd_format.specs.Take.{Take, take-of, read-take}
 use Rattle.vmd_format.specs.Opening.{Extent, Scan}
-use Rattle.vmd_format.specs.Places.{scan-file}
-use Rattle.vmd_format.specs.PlacesLaws.{section-in, frames-in, table-length}
-use Rattle.vmd_format.specs.ScanLaws.{file-in, frames-length}
-use Rattle.vmd_format.specs.ExportLaws.{take-in, take-by-places, Scanned}
+use Rattle.vmd_laws.specs.Places.{scan-file}
+use Rattle.vmd_laws.specs.PlacesLaws.{section-in, frames-in, table-length}
+use Rattle.vmd_laws.specs.ScanLaws.{file-in, frames-length}
+use Rattle.vmd_laws.specs.ExportLaws.{take-in, take-by-places, Scanned}
 use Rattle.vmd_format.specs.Parts.{Parts}
-use Rattle.vmd_format.specs.SizedLaws.{camera-sized, light-sized, self-shadow-sized, section-length}
+use Rattle.vmd_laws.specs.SizedLaws.{camera-sized, light-sized, self-shadow-sized, section-length}
 use Rattle.vmd_keys.specs.Names.{names-in, distinct, bone-names-of, morph-names-of}
 use Rattle.vmd_keys.specs.NameLaws.{bone-names, morph-names}
 use Rattle.vmd_tables.specs.Tables.{joined, table-of-names, name-table, name-indices}
 use Rattle.vmd_tables.specs.TableMeaning.{table-count}
 use Rattle.vmd_columns.specs.ColumnLaws.{bone-translations, bone-rotations, bone-interpolations, numbers-column-length, run-column-length}
-use Rattle.vmd_split.specs.Split.{translation, rotation, parts-of-take, table-within, table-fits, bones-fit, morphs-fit, records-fit, parts-fit, split, table-sizes, split-answer, parts-left, buffers, split-sizes}
-use Rattle.vmd_split.specs.Given.{frames-size}
+use Rattle.vmd_take_parts.specs.Split.{translation, rotation, parts-of-take, table-within, table-fits, bones-fit, morphs-fit, records-fit, parts-fit, split, table-sizes, split-answer, parts-left, buffers, split-sizes}
+use Rattle.vmd_take_parts.specs.Given.{frames-size}
 use Rattle.vmd_split.specs.Stages.{table-room, bone-room, morph-room, record-room, table-in, parts-room, bones-in, morphs-in, RecordsLeft, BonesLeft, MorphsLeft}
 use Rattle.vmd_split.proofs.Room.{both}
 

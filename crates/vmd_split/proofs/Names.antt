@@ -7,9 +7,9 @@ use native.Mathlib.Omega.{arith}
 use borrow.Author.Tests.{leb-true, le-leb}
 use lib.ListN.{length, length-append}
 use lib.Dec.{leb}
-use Rattle.vmd_format.specs.BytesLaws.{Bytes}
+use Rattle.vmd_laws.specs.BytesLaws.{Bytes}
 use Rattle.vmd_format.specs.Read.{write-all}
-use Rattle.vmd_format.specs.ReadLaws.{All}
+use Rattle.vmd_laws.specs.ReadLaws.{All}
 use Rattle.vmd_format.specs.Parts.{upto}
 use Rattle.vmd_keys.specs.Names.{name-in, names-in, distinct}
 use Rattle.vmd_keys.specs.KeyLaws.{name-short}

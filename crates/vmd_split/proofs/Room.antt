@@ -11,16 +11,16 @@ use Rattle.vmd_format.specs.Layout.{Layout}
 use Rattle.vmd_format.specs.Read.{table, write-all}
 use Rattle.vmd_format.specs.Take.{property}
 use Rattle.vmd_format.specs.Opening.{Scan}
-use Rattle.vmd_format.specs.PlacesLaws.{frames-in}
-use Rattle.vmd_format.specs.ScanLaws.{frames-length}
-use Rattle.vmd_format.specs.ExportLaws.{Scanned}
+use Rattle.vmd_laws.specs.PlacesLaws.{frames-in}
+use Rattle.vmd_laws.specs.ScanLaws.{frames-length}
+use Rattle.vmd_laws.specs.ExportLaws.{Scanned}
 use Rattle.vmd_format.specs.Parts.{NameTable}
-use Rattle.vmd_format.specs.SizedLaws.{Sized, section-length}
+use Rattle.vmd_laws.specs.SizedLaws.{Sized, section-length}
 use Rattle.vmd_bytes.specs.Slices.{splice}
 use Rattle.vmd_bytes.specs.Written.{Room, Wrote}
-use Rattle.vmd_split.specs.Split.{table-within, table-fits, over}
-use Rattle.vmd_split.specs.Fitting.{TableFits, table-fits-says}
-use Rattle.vmd_split.specs.Given.{frames-size}
+use Rattle.vmd_take_parts.specs.Split.{table-within, table-fits, over}
+use Rattle.vmd_take_parts.specs.Fitting.{TableFits, table-fits-says}
+use Rattle.vmd_take_parts.specs.Given.{frames-size}
 use Rattle.vmd_split.specs.Stages.{table-room, bone-room, morph-room, record-room}
 
 -- ---- tests

@@ -16,8 +16,8 @@ use Rattle.vmd_tables.specs.Leading.{Beyond, Numbered}
 use Rattle.vmd_tables.proofs.Numbering.{front-beyond}
 use Rattle.vmd_columns.specs.Columns.{numbers-at, column}
 use Rattle.vmd_columns.specs.ColumnLaws.{bone-frames, bone-translations, bone-rotations, bone-interpolations, morph-frames, morph-weights, numbers-column-length}
-use Rattle.vmd_split.specs.Split.{translation, rotation, over}
-use Rattle.vmd_split.specs.Fitting.{TableFits}
+use Rattle.vmd_take_parts.specs.Split.{translation, rotation, over}
+use Rattle.vmd_take_parts.specs.Fitting.{TableFits}
 use Rattle.vmd_split.specs.Stages.{BonesLeft, MorphsLeft}
 use Rattle.vmd_split.proofs.Room.{front}
 

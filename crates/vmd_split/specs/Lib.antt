@@ -1,11 +1,2 @@
-pub mod Split
 pub mod Meaning
 pub mod Stages
-pub mod Passing
-pub mod Fitting
-pub mod Columns
-pub mod PartsMean
-pub mod Rebuilding
-pub mod SplitRefusals
-pub mod Given
-pub mod Examples

@@ -1,7 +1,7 @@
 -- What the types of the code mean in the terms of the definitions, by cases. Definitions only.
 use Rattle.vmd_format.specs.Answer.{Answer, declined, given}
 use Rattle.vmd_base.specs.Meaning.{refusal-of}
-use Rattle.vmd_split.specs.Split.{TableSizes}
+use Rattle.vmd_take_parts.specs.Split.{TableSizes}
 use Rattle.vmd_split.specs.declared.VmdTableSizes.{VmdTableSizes}
 use Rattle.vmd_split.specs.declared.VmdSplit.{VmdSplit}
 use Rattle.vmd_split.specs.declared.VmdSplit.the-variants.{Refused, Tables}

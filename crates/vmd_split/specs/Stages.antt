@@ -10,11 +10,11 @@ use Rattle.vmd_format.specs.Records.{Bone, Morph, bone, morph, camera, light, s
 use Rattle.vmd_format.specs.Read.{table, write-all}
 use Rattle.vmd_format.specs.Take.{property}
 use Rattle.vmd_format.specs.Opening.{Extent, Scan}
-use Rattle.vmd_format.specs.PlacesLaws.{frames-in}
+use Rattle.vmd_laws.specs.PlacesLaws.{frames-in}
 use Rattle.vmd_format.specs.Parts.{NameTable}
 use Rattle.vmd_keys.specs.Names.{names-in}
 use Rattle.vmd_tables.specs.Tables.{name-table, name-indices}
-use Rattle.vmd_split.specs.Split.{translation, rotation, over}
+use Rattle.vmd_take_parts.specs.Split.{translation, rotation, over}
 
 -- ---- room, by lengths
 

@@ -20,13 +20,13 @@ ghost use Prim.Native.Nat.{_+_, _*_, _≤_};
 ghost use lib.Dec.{leb};
 ghost use lib.ListN.{length};
 ghost use Rattle.vmd_format.specs.Read.{lenient};
-ghost use Rattle.vmd_format.specs.ScanLaws.{ExtentWithin};
-ghost use Rattle.vmd_format.specs.ExportLaws.{Scanned};
+ghost use Rattle.vmd_laws.specs.ScanLaws.{ExtentWithin};
+ghost use Rattle.vmd_laws.specs.ExportLaws.{Scanned};
 ghost use Rattle.vmd_base.specs.Meaning.{extent-is};
 ghost use Rattle.vmd_scan.specs.Meaning.{scan-is};
 ghost use Rattle.vmd_keys.specs.Names.{names-in};
 ghost use Rattle.vmd_tables.specs.Tables.{name-table};
-ghost use Rattle.vmd_split.specs.Split.{split, split-answer, split-sizes, parts-left, buffers};
+ghost use Rattle.vmd_take_parts.specs.Split.{split, split-answer, split-sizes, parts-left, buffers};
 ghost use Rattle.vmd_split.specs.Meaning.{split-is};
 ghost use Rattle.vmd_split.specs.Stages.{table-room, bone-room, morph-room, record-room, parts-room, bones-in, morphs-in, RecordsLeft, BonesLeft, MorphsLeft};
 

@@ -6,7 +6,7 @@ use native.Mathlib.Nat.{zero-add}
 use native.Mathlib.Omega.{arith}
 use lib.ListN.{length, getD, set, take, drop, length-append, List·getD-append}
 use Rattle.vmd_format.specs.Bytes.{before-zero}
-use Rattle.vmd_format.specs.BytesLaws.{Bytes}
+use Rattle.vmd_laws.specs.BytesLaws.{Bytes}
 use Rattle.vmd_format.specs.Read.{write-all}
 use Rattle.vmd_format.specs.Parts.{upto}
 use Rattle.vmd_bytes.specs.Slices.{splice, run}

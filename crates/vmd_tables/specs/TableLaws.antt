@@ -8,10 +8,10 @@ use native.Mathlib.Nat.{zero-add, add-zero, suc-add}
 use native.Mathlib.Omega.{arith}
 use lib.ListN.{length, getD, length-append, length-map}
 use Rattle.vmd_format.specs.Read.{write-all}
-use Rattle.vmd_format.specs.ReadLaws.{All}
+use Rattle.vmd_laws.specs.ReadLaws.{All}
 use Rattle.vmd_format.specs.Take.{same}
 use Rattle.vmd_format.specs.Parts.{upto}
-use Rattle.vmd_format.specs.PartsLaws.{upto-length, upto-below, all-map}
+use Rattle.vmd_laws.specs.PartsLaws.{upto-length, upto-below, all-map}
 use Rattle.vmd_keys.specs.Names.{name-in, names-in, keep-if, select, distinct}
 use Rattle.vmd_count.specs.DistinctLaws.{same-refl, Names, equal, apart, names, all-select, Member, all-members, map-same, member-named, apart-from, all-distinct, Once, here, there, once-distinct}
 use Rattle.vmd_tables.specs.Tables.{joined, ends-from, table-of-names, index-if, index-of, name-table, name-indices}

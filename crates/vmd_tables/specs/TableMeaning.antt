@@ -12,7 +12,7 @@ use lib.Dec.{ltb}
 use lib.ListN.{length, getD, drop, length-append, length-map, take, length-drop, take-append-drop, drop-of-length-le}
 use lib.Seq.{length-take-le, take-append-seam, drop-append-seam, drop-drop, ext-getD}
 use Rattle.vmd_format.specs.Read.{write-all}
-use Rattle.vmd_format.specs.ReadLaws.{All}
+use Rattle.vmd_laws.specs.ReadLaws.{All}
 use Rattle.vmd_format.specs.Take.{same}
 use Rattle.vmd_format.specs.Parts.{NameTable, names-from, names-of, ends-right, table-right}
 use Rattle.vmd_keys.specs.Names.{keep-if, select, distinct}

@@ -16,13 +16,13 @@ use Rattle.vmd_format.specs.Records.{bone, morph, camera, light, self-shadow}
 use Rattle.vmd_format.specs.Fetch.{next-frame, model-of}
 use Rattle.vmd_format.specs.Take.{Take, newer, property, take-of, write-take, write-edition, write-header, write-sections}
 use Rattle.vmd_format.specs.Opening.{Scan, ik-total}
-use Rattle.vmd_format.specs.Places.{Reaches, scan-file}
-use Rattle.vmd_format.specs.ScanLaws.{file-in}
-use Rattle.vmd_format.specs.PlacesLaws.{section-in}
+use Rattle.vmd_laws.specs.Places.{Reaches, scan-file}
+use Rattle.vmd_laws.specs.ScanLaws.{file-in}
+use Rattle.vmd_laws.specs.PlacesLaws.{section-in}
 use Rattle.vmd_format.specs.Join.{file-length}
-use Rattle.vmd_format.specs.Lengths.{edition-length}
-use Rattle.vmd_format.specs.InsideLaws.{inside-reaches}
-use Rattle.vmd_format.specs.ExportLaws.{Scanned, take-in, scan-counts, scan-length, take-by-places}
+use Rattle.vmd_laws.specs.Lengths.{edition-length}
+use Rattle.vmd_laws.specs.InsideLaws.{inside-reaches}
+use Rattle.vmd_laws.specs.ExportLaws.{Scanned, take-in, scan-counts, scan-length, take-by-places}
 use Rattle.vmd_bytes.specs.Slices.{splice}
 use Rattle.vmd_bytes.specs.Written.{Room, Wrote, Rest}
 use Rattle.vmd_bytes.proofs.Writes.{rest-as}

@@ -4,14 +4,14 @@ use mathlib.Core.Path.{_≡_, refl}
 use mathlib.Core.List.{List, [], _∷_}
 use native.Mathlib.Omega.{arith}
 use lib.ListN.{length}
-use Rattle.vmd_format.specs.ReadLaws.{All}
+use Rattle.vmd_laws.specs.ReadLaws.{All}
 use Rattle.vmd_format.specs.Records.{Property}
 use Rattle.vmd_format.specs.Take.{Take, write-take}
-use Rattle.vmd_format.specs.TakeLaws.{WellFormed}
+use Rattle.vmd_laws.specs.TakeLaws.{WellFormed}
 use Rattle.vmd_format.specs.Opening.{ik-total}
 use Rattle.vmd_format.specs.Join.{join}
-use Rattle.vmd_format.specs.JoinLaws.{Fit}
-use Rattle.vmd_format.specs.Lengths.{export-length}
+use Rattle.vmd_laws.specs.JoinLaws.{Fit}
+use Rattle.vmd_laws.specs.Lengths.{export-length}
 use Rattle.vmd_tracks.specs.Tracks.{tidy-section, one-track}
 use Rattle.vmd_tracks.specs.TrackLaws.{tidy-section-twice, tidy-section-join, all-tidy}
 use Rattle.vmd_tracks.specs.DroppedLaws.{sum-over, made-up, kept-and-dropped}

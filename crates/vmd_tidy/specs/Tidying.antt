@@ -11,17 +11,17 @@ use lib.Seq.{take-append-seam}
 use Rattle.vmd_format.specs.Refusal.{scratch-too-short, output-too-short}
 use Rattle.vmd_format.specs.Answer.{Answer, declined, given, and-then, map-answer, unless, left, file-left}
 use Rattle.vmd_format.specs.Read.{Manner}
-use Rattle.vmd_format.specs.Take.{Take, older, edition, read-take, write-take}
-use Rattle.vmd_format.specs.TakeLaws.{take-back}
+use Rattle.vmd_format.specs.Take.{Take, older, edition, read-take, write-take, widened}
+use Rattle.vmd_laws.specs.TakeLaws.{take-back}
 use Rattle.vmd_format.specs.Opening.{Scan}
-use Rattle.vmd_format.specs.Places.{scan-file}
-use Rattle.vmd_format.specs.ScanLaws.{Inside}
-use Rattle.vmd_format.specs.ExportLaws.{take-in, take-by-places, scan-scanned}
+use Rattle.vmd_laws.specs.Places.{scan-file}
+use Rattle.vmd_laws.specs.ScanLaws.{Inside}
+use Rattle.vmd_laws.specs.ExportLaws.{take-in, take-by-places, scan-scanned}
 use Rattle.vmd_format.specs.Join.{join}
-use Rattle.vmd_format.specs.JoinLaws.{Fit, join-well-formed}
-use Rattle.vmd_format.specs.SavingLaws.{Accepted, Reads, well-formed, written-accepted}
-use Rattle.vmd_format.specs.EditionLaws.{widened, take-widened}
-use Rattle.vmd_format.specs.RefusalLaws.{here, there, reading-numbers, Refuses, among-back, reading-refuses, refuses-more, refuses-then, refuses-unless}
+use Rattle.vmd_laws.specs.JoinLaws.{Fit, join-well-formed}
+use Rattle.vmd_laws.specs.SavingLaws.{Accepted, Reads, well-formed, written-accepted}
+use Rattle.vmd_laws.specs.EditionLaws.{take-widened}
+use Rattle.vmd_laws.specs.RefusalLaws.{here, there, reading-numbers, Refuses, among-back, reading-refuses, refuses-more, refuses-then, refuses-unless}
 use Rattle.vmd_export.specs.Demand3.{joined, joined-is}
 use Rattle.vmd_export.specs.Demand3 as saving
 use Rattle.vmd_tidy.specs.Tidied.{tidy, whole-name, counts-of, largest-section, tidied-file, fitting, tidying, report, tidied-answer, tidied-output, tidied-scratch, cleared, longest, size-answer, size-scratch}

@@ -15,7 +15,7 @@ ghost use Rattle.vmd_format.specs.Answer.{map-answer, left};
 ghost use Rattle.vmd_format.specs.Read.{lenient};
 ghost use Rattle.vmd_format.specs.Take.{write-take};
 ghost use Rattle.vmd_format.specs.Opening.{ik-total};
-ghost use Rattle.vmd_format.specs.ExportLaws.{Scanned, take-in};
+ghost use Rattle.vmd_laws.specs.ExportLaws.{Scanned, take-in};
 ghost use Rattle.vmd_base.specs.Meaning.{manner-of};
 ghost use Rattle.vmd_output.specs.Meaning.{written-answer};
 ghost use Rattle.vmd_scan.specs.Meaning.{scan-is};
@@ -193,7 +193,7 @@ fn write_file(out: &mut [u8], a: &mut [u64], s: &[u8], x: VmdSections) -> VmdTid
     requires { ⌜ Scanned (now s) (scan-is x) × (largest-count (scan-is x) ≤ length (now a)) × Room (now out) 0 (write-take (tidied-at (now s) (scan-is x))) ⌝ }
     ensures { λ r. ⌜ Wrote (now (out .entry)) 0 (write-take (tidied-at (now (s .entry)) (scan-is x))) (now (out .exit)) (r .bytes) × (counts-are (r .kept) ≡ counts-at (now (s .entry)) (scan-is x)) × Whole (counts-are (r .kept)) (counts-are (r .dropped)) (scan-is x) × Beyond (largest-count (scan-is x)) (now (a .entry)) (now (a .exit)) ⌝ }
 {
-    let to = vmd_output::write_header(out, VmdEdition::Newer, vmd_scan::model_name(s));
+    let to = vmd_output::write_header(out, VmdEdition::Newer, vmd_header::model_name(s));
     let f = write_front(out, to, a, s, x);
     let b = write_back(out, f.end, a, s, x);
     let kept = VmdCounts {

@@ -9,12 +9,12 @@ use borrow.Author.Tests.{eq-eqb, ne-eqb}
 use lib.Dec.{eqb}
 use lib.ListN.{length, drop, length-map}
 use Rattle.vmd_format.specs.Bytes.{u32}
-use Rattle.vmd_format.specs.BytesLaws.{Bytes}
-use Rattle.vmd_format.specs.ReadLaws.{All}
+use Rattle.vmd_laws.specs.BytesLaws.{Bytes}
+use Rattle.vmd_laws.specs.ReadLaws.{All}
 use Rattle.vmd_format.specs.Records.{ik-state}
 use Rattle.vmd_format.specs.Take.{same}
 use Rattle.vmd_format.specs.Opening.{Extent, ik-total}
-use Rattle.vmd_format.specs.PlacesLaws.{property-in, table-length}
+use Rattle.vmd_laws.specs.PlacesLaws.{property-in, table-length}
 use Rattle.vmd_keys.specs.Names.{name-in}
 use Rattle.vmd_keys.specs.Keys.{key-of, worth, top}
 use Rattle.vmd_keys.specs.KeyLaws.{pack-first, pack-second, worth-tells, name-good}

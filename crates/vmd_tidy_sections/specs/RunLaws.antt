@@ -9,7 +9,7 @@ use lib.Seq.{take-suc, drop-cons, drop-drop, drop-length, getD-drop}
 use Rattle.vmd_format.specs.Layout.{Layout}
 use Rattle.vmd_format.specs.Read.{table, write-all}
 use Rattle.vmd_format.specs.Take.{property}
-use Rattle.vmd_format.specs.PlacesLaws.{property-in, frames-in}
+use Rattle.vmd_laws.specs.PlacesLaws.{property-in, frames-in}
 use Rattle.vmd_bytes.specs.Written.{Room, Wrote, Rest}
 use Rattle.vmd_bytes.proofs.Writes.{rest-all, rest-room, rest-then, none-left}
 use Rattle.vmd_tables.specs.TableLaws.{write-append}

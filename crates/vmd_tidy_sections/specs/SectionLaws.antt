@@ -12,9 +12,9 @@ use Rattle.vmd_format.specs.Fetch.{next-frame}
 use Rattle.vmd_format.specs.Read.{fixed, write-all, write-counted}
 use Rattle.vmd_format.specs.Layout.{number, name, raw, byte, flag, inverted, _⊗_, as-record}
 use Rattle.vmd_format.specs.Records.{bone, morph, camera, light, self-shadow}
-use Rattle.vmd_format.specs.ReadLaws.{All}
+use Rattle.vmd_laws.specs.ReadLaws.{All}
 use Rattle.vmd_format.specs.Opening.{Extent}
-use Rattle.vmd_format.specs.PlacesLaws.{property-in, frames-in}
+use Rattle.vmd_laws.specs.PlacesLaws.{property-in, frames-in}
 use Rattle.vmd_format.specs.Take.{property}
 use Rattle.vmd_records.specs.declared.VmdKind.{VmdKind}
 use Rattle.vmd_records.specs.declared.VmdKind.the-variants as kind

@@ -7,7 +7,7 @@ use Rattle.vmd_format.specs.Layout.{Layout}
 use Rattle.vmd_format.specs.Records.{Property}
 use Rattle.vmd_format.specs.Read.{table}
 use Rattle.vmd_format.specs.Opening.{Extent}
-use Rattle.vmd_format.specs.PlacesLaws.{frames-in}
+use Rattle.vmd_laws.specs.PlacesLaws.{frames-in}
 use Rattle.vmd_records.specs.declared.VmdKind.{VmdKind}
 use Rattle.vmd_records.specs.declared.VmdKind.the-variants as kind
 use Rattle.vmd_records.specs.Kinds.{Row, layout, size-of, frame-at}

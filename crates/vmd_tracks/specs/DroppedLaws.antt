@@ -7,7 +7,7 @@ use native.Mathlib.Omega.{arith}
 use borrow.Author.Tests.{eqb-true, eqb-false, not-true}
 use lib.ListN.{length}
 use lib.Dec.{eqb}
-use Rattle.vmd_format.specs.ReadLaws.{All}
+use Rattle.vmd_laws.specs.ReadLaws.{All}
 use Rattle.vmd_format.specs.Take.{same}
 use Rattle.vmd_keys.specs.Names.{keep-if, select, distinct}
 use Rattle.vmd_count.specs.DistinctLaws.{same-refl, Names, equal, apart, names, all-select, select-passed}

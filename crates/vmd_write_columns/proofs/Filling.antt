@@ -14,9 +14,9 @@ use Rattle.vmd_format.specs.Layout.{number, name, raw, _⊗_, as-record}
 use Rattle.vmd_format.specs.Refusal.{name-index-too-large, not-finite}
 use Rattle.vmd_format.specs.Records.{bone, morph}
 use Rattle.vmd_format.specs.Read.{write-all}
-use Rattle.vmd_format.specs.Rewriting.{padded-front}
+use Rattle.vmd_laws.specs.Rewriting.{padded-front}
 use Rattle.vmd_format.specs.Parts.{NameTable, Check, passes, _next_, each, finite, all-finite, names-of, upto}
-use Rattle.vmd_format.specs.PartsLaws.{all-at, upto-length, next-passes, need-passes, each-passes}
+use Rattle.vmd_laws.specs.PartsLaws.{all-at, upto-length, next-passes, need-passes, each-passes}
 use Rattle.vmd_bytes.specs.Slices.{splice, run}
 use Rattle.vmd_bytes.proofs.Laws.{part-cons}
 use Rattle.vmd_bytes.specs.Written.{Room, Wrote}

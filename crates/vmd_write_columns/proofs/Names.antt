@@ -12,10 +12,10 @@ use lib.Dec.{eqb}
 use lib.ListN.{length, getD, take, drop}
 use lib.Seq.{drop-nil}
 use Rattle.vmd_format.specs.Bytes.{u32-bytes, padded}
-use Rattle.vmd_format.specs.BytesLaws.{padded-length}
+use Rattle.vmd_laws.specs.BytesLaws.{padded-length}
 use Rattle.vmd_format.specs.Refusal.{name-unfit}
 use Rattle.vmd_format.specs.Parts.{passes, each, names-from, names-of, table-right, name-check}
-use Rattle.vmd_format.specs.PartsLaws.{all-at, next-passes, need-passes, each-passes}
+use Rattle.vmd_laws.specs.PartsLaws.{all-at, next-passes, need-passes, each-passes}
 use Rattle.vmd_bytes.specs.Slices.{splice, run}
 use Rattle.vmd_bytes.specs.Words.{digits, repeated}
 use Rattle.vmd_bytes.proofs.Laws.{splice-append-at, splice-over-end, length-run, take-run, drop-run, length-u32-bytes}

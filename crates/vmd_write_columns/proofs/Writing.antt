@@ -8,7 +8,7 @@ use lib.ListN.{length, getD, take, drop, length-append, length-drop, length-map}
 use lib.Seq.{length-take-le}
 use lib.Ieee.{Float, nan, binary32, toBits}
 use Rattle.vmd_format.specs.Bytes.{u32-bytes, padded}
-use Rattle.vmd_format.specs.BytesLaws.{padded-length}
+use Rattle.vmd_laws.specs.BytesLaws.{padded-length}
 use Rattle.vmd_format.specs.Read.{write-all}
 use Rattle.vmd_format.specs.Parts.{finite, all-finite}
 use Rattle.vmd_bytes.specs.Slices.{splice, run}

@@ -9,9 +9,9 @@ use Rattle.vmd_format.specs.Read.{table, write-all}
 use Rattle.vmd_format.specs.Records.{ik-state}
 use Rattle.vmd_format.specs.Take.{property}
 use Rattle.vmd_format.specs.Fetch.{next-frame}
-use Rattle.vmd_format.specs.Places.{Reaches}
-use Rattle.vmd_format.specs.PlacesLaws.{property-in, frames-in}
-use Rattle.vmd_format.specs.WalkLaws.{frame-bytes, frame-ends, reaches-first, frames-first, frames-none}
+use Rattle.vmd_laws.specs.Places.{Reaches}
+use Rattle.vmd_laws.specs.PlacesLaws.{property-in, frames-in}
+use Rattle.vmd_laws.specs.WalkLaws.{frame-bytes, frame-ends, reaches-first, frames-first, frames-none}
 use Rattle.vmd_bytes.specs.Slices.{splice}
 use Rattle.vmd_bytes.specs.Written.{Room, Wrote, Rest}
 use Rattle.vmd_bytes.proofs.Laws.{splice-append-at, splice-snoc-at, length-u32-bytes}

@@ -7,12 +7,12 @@ use native.Mathlib.Nat.{add-zero}
 use lib.ListN.{length, getD, set, take, drop, length-drop}
 use lib.Seq.{drop-drop, take-at, getD-drop}
 use Rattle.vmd_format.specs.Bytes.{before-zero, padded}
-use Rattle.vmd_format.specs.BytesLaws.{Bytes, bytes-drop}
+use Rattle.vmd_laws.specs.BytesLaws.{Bytes, bytes-drop}
 use Rattle.vmd_format.specs.Layout.{Layout}
 use Rattle.vmd_format.specs.Read.{table, write-all}
-use Rattle.vmd_format.specs.Rewriting.{Rewrites}
-use Rattle.vmd_format.specs.SizedLaws.{Sized, section-length, table-first, table-none, section-stays}
-use Rattle.vmd_format.specs.PlacesLaws.{table-length}
+use Rattle.vmd_laws.specs.Rewriting.{Rewrites}
+use Rattle.vmd_laws.specs.SizedLaws.{Sized, section-length, table-first, table-none, section-stays}
+use Rattle.vmd_laws.specs.PlacesLaws.{table-length}
 use Rattle.vmd_bytes.specs.Slices.{splice, run}
 use Rattle.vmd_bytes.specs.Written.{Room, Wrote}
 use Rattle.vmd_bytes.proofs.Laws.{splice-snoc-at, length-run, name-wider}

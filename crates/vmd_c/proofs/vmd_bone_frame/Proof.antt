@@ -4,8 +4,8 @@ use borrow.Author.Needs.{needs}
 use Rattle.vmd_format.specs.Records.{bone}
 use Rattle.vmd_records.specs.Fields.{bone-fields}
 use Rattle.vmd_reader.specs.Meaning.{bone-answer}
-use Rattle.vmd_c.specs.Meaning.{bone-words}
-use Rattle.vmd_c.proofs.Laws.{fetch-at, refused, found}
+use Rattle.vmd_slots.specs.Meaning.{bone-words}
+use Rattle.vmd_slots.proofs.Laws.{fetch-at, refused, found}
 use Rattle.vmd_c.proofs.vmd_bone_frame.Statement.{statement}
 use Rattle.vmd_c.proofs.vmd_bone_frame.Tie as tie
 

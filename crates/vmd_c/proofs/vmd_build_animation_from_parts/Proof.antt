@@ -1,6 +1,6 @@
 -- `vmd_c::vmd_build_animation_from_parts` meets its contract. Assumes nothing.
 use borrow.Author.Needs.{needs}
-use Rattle.vmd_c.proofs.Laws.{handed}
+use Rattle.vmd_slots.proofs.Laws.{handed}
 use Rattle.vmd_c.proofs.vmd_build_animation_from_parts.Statement.{statement}
 use Rattle.vmd_c.proofs.vmd_build_animation_from_parts.Tie as tie
 

@@ -4,8 +4,8 @@ use borrow.Author.Needs.{needs}
 use Rattle.vmd_format.specs.Records.{camera}
 use Rattle.vmd_records.specs.Fields.{camera-fields}
 use Rattle.vmd_reader.specs.Meaning.{camera-answer}
-use Rattle.vmd_c.specs.Meaning.{camera-words}
-use Rattle.vmd_c.proofs.Laws.{fetch-at, refused, found}
+use Rattle.vmd_slots.specs.Meaning.{camera-words}
+use Rattle.vmd_slots.proofs.Laws.{fetch-at, refused, found}
 use Rattle.vmd_c.proofs.vmd_camera_frame.Statement.{statement}
 use Rattle.vmd_c.proofs.vmd_camera_frame.Tie as tie
 

@@ -1,8 +1,8 @@
 -- `vmd_c::vmd_ik_name` meets its contract. Assumes nothing.
 use mathlib.Core.Path.{ap, _∙_}
 use borrow.Author.Needs.{needs}
-use Rattle.vmd_c.specs.Meaning.{part-words}
-use Rattle.vmd_c.proofs.Laws.{ik-part-at}
+use Rattle.vmd_slots.specs.Meaning.{part-words}
+use Rattle.vmd_slots.proofs.Laws.{ik-part-at}
 use Rattle.vmd_c.proofs.vmd_ik_name.Statement.{statement}
 use Rattle.vmd_c.proofs.vmd_ik_name.Tie as tie
 

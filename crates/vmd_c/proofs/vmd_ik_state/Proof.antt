@@ -3,7 +3,7 @@ use mathlib.Core.Path.{ap}
 use borrow.Author.Needs.{needs}
 use Rattle.vmd_records.specs.Fields.{ik-fields}
 use Rattle.vmd_reader.specs.Meaning.{ik-state-answer}
-use Rattle.vmd_c.proofs.Laws.{fetch-ik-at, refused, found}
+use Rattle.vmd_slots.proofs.Laws.{fetch-ik-at, refused, found}
 use Rattle.vmd_c.proofs.vmd_ik_state.Statement.{statement}
 use Rattle.vmd_c.proofs.vmd_ik_state.Tie as tie
 

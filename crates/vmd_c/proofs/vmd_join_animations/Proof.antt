@@ -1,6 +1,6 @@
 -- `vmd_c::vmd_join_animations` meets its contract. Assumes nothing.
 use borrow.Author.Needs.{needs}
-use Rattle.vmd_c.proofs.Laws.{handed}
+use Rattle.vmd_slots.proofs.Laws.{handed}
 use Rattle.vmd_c.proofs.vmd_join_animations.Statement.{statement}
 use Rattle.vmd_c.proofs.vmd_join_animations.Tie as tie
 

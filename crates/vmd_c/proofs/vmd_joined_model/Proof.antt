@@ -1,7 +1,7 @@
 -- `vmd_c::vmd_joined_model` meets its contract. Assumes nothing.
 use native.Mathlib.Omega.{arith}
 use borrow.Author.Needs.{needs}
-use Rattle.vmd_c.proofs.Laws.{joined-none, joined-second, joined-first}
+use Rattle.vmd_slots.proofs.Laws.{joined-none, joined-second, joined-first}
 use Rattle.vmd_c.proofs.vmd_joined_model.Statement.{statement}
 use Rattle.vmd_c.proofs.vmd_joined_model.Tie as tie
 

@@ -4,8 +4,8 @@ use borrow.Author.Needs.{needs}
 use Rattle.vmd_format.specs.Records.{light}
 use Rattle.vmd_records.specs.Fields.{light-floats}
 use Rattle.vmd_reader.specs.Meaning.{light-answer}
-use Rattle.vmd_c.specs.Meaning.{light-values}
-use Rattle.vmd_c.proofs.Laws.{fetch-at, status-declined, status-given, slot-declined, slot-filled, told, arrived}
+use Rattle.vmd_slots.specs.Meaning.{light-values}
+use Rattle.vmd_slots.proofs.Laws.{fetch-at, status-declined, status-given, slot-declined, slot-filled, told, arrived}
 use Rattle.vmd_c.proofs.vmd_light_frame.Statement.{statement}
 use Rattle.vmd_c.proofs.vmd_light_frame.Tie as tie
 

@@ -4,8 +4,8 @@ use borrow.Author.Needs.{needs}
 use Rattle.vmd_format.specs.Records.{light}
 use Rattle.vmd_records.specs.Fields.{light-bits}
 use Rattle.vmd_reader.specs.Meaning.{light-bits-answer}
-use Rattle.vmd_c.specs.Meaning.{light-words}
-use Rattle.vmd_c.proofs.Laws.{fetch-at, refused, found}
+use Rattle.vmd_slots.specs.Meaning.{light-words}
+use Rattle.vmd_slots.proofs.Laws.{fetch-at, refused, found}
 use Rattle.vmd_c.proofs.vmd_light_frame_bits.Statement.{statement}
 use Rattle.vmd_c.proofs.vmd_light_frame_bits.Tie as tie
 

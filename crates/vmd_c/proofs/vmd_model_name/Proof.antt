@@ -1,7 +1,7 @@
 -- `vmd_c::vmd_model_name` meets its contract. Assumes nothing.
 use mathlib.Core.Path.{ap, _∙_}
 use borrow.Author.Needs.{needs}
-use Rattle.vmd_c.specs.Meaning.{part-words}
+use Rattle.vmd_slots.specs.Meaning.{part-words}
 use Rattle.vmd_c.proofs.vmd_model_name.Statement.{statement}
 use Rattle.vmd_c.proofs.vmd_model_name.Tie as tie
 

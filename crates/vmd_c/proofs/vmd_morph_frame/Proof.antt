@@ -4,8 +4,8 @@ use borrow.Author.Needs.{needs}
 use Rattle.vmd_format.specs.Records.{morph}
 use Rattle.vmd_records.specs.Fields.{morph-fields}
 use Rattle.vmd_reader.specs.Meaning.{morph-answer}
-use Rattle.vmd_c.specs.Meaning.{morph-words}
-use Rattle.vmd_c.proofs.Laws.{fetch-at, refused, found}
+use Rattle.vmd_slots.specs.Meaning.{morph-words}
+use Rattle.vmd_slots.proofs.Laws.{fetch-at, refused, found}
 use Rattle.vmd_c.proofs.vmd_morph_frame.Statement.{statement}
 use Rattle.vmd_c.proofs.vmd_morph_frame.Tie as tie
 

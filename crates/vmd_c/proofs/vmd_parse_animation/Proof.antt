@@ -2,8 +2,8 @@
 use mathlib.Core.Path.{refl, sym, ap, _∙_}
 use borrow.Author.Needs.{needs}
 use Rattle.vmd_reader.specs.Meaning.{opening-answer}
-use Rattle.vmd_c.specs.Meaning.{counts-of, places-of, totals-of}
-use Rattle.vmd_c.proofs.Laws.{status-declined, status-given, slot-declined, slot-given}
+use Rattle.vmd_slots.specs.Meaning.{counts-of, places-of, totals-of}
+use Rattle.vmd_slots.proofs.Laws.{status-declined, status-given, slot-declined, slot-given}
 use Rattle.vmd_c.proofs.vmd_parse_animation.Statement.{statement}
 use Rattle.vmd_c.proofs.vmd_parse_animation.Tie as tie
 

@@ -3,8 +3,8 @@ use mathlib.Core.Path.{ap}
 use borrow.Author.Needs.{needs}
 use Rattle.vmd_records.specs.Fields.{property-fields}
 use Rattle.vmd_reader.specs.Meaning.{property-answer}
-use Rattle.vmd_c.specs.Meaning.{property-words}
-use Rattle.vmd_c.proofs.Laws.{fetch-property-at, refused, found}
+use Rattle.vmd_slots.specs.Meaning.{property-words}
+use Rattle.vmd_slots.proofs.Laws.{fetch-property-at, refused, found}
 use Rattle.vmd_c.proofs.vmd_property_frame.Statement.{statement}
 use Rattle.vmd_c.proofs.vmd_property_frame.Tie as tie
 

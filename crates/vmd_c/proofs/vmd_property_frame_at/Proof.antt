@@ -3,8 +3,8 @@ use mathlib.Core.Path.{refl, ap}
 use borrow.Author.Needs.{needs}
 use Rattle.vmd_records.specs.Fields.{property-fields}
 use Rattle.vmd_reader.specs.Meaning.{step-fields, step-answer}
-use Rattle.vmd_c.specs.Meaning.{property-words}
-use Rattle.vmd_c.proofs.Laws.{status-declined, status-given, slot-declined, slot-filled, told, arrived}
+use Rattle.vmd_slots.specs.Meaning.{property-words}
+use Rattle.vmd_slots.proofs.Laws.{status-declined, status-given, slot-declined, slot-filled, told, arrived}
 use Rattle.vmd_c.proofs.vmd_property_frame_at.Statement.{statement}
 use Rattle.vmd_c.proofs.vmd_property_frame_at.Tie as tie
 

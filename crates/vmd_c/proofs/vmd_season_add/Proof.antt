@@ -3,7 +3,7 @@ use mathlib.Core.Path.{ap, _∙_}
 use borrow.Author.Needs.{needs}
 use Rattle.vmd_season.specs.Season.{with-file}
 use Rattle.vmd_format.specs.Read.{lenient}
-use Rattle.vmd_c.specs.Meaning.{season-counts, season-figures}
+use Rattle.vmd_slots.specs.Meaning.{season-counts, season-figures}
 use Rattle.vmd_c.proofs.vmd_season_add.Statement.{statement}
 use Rattle.vmd_c.proofs.vmd_season_add.Tie as tie
 

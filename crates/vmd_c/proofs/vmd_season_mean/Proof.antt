@@ -3,7 +3,7 @@ use mathlib.Core.Path.{ap, _∙_}
 use borrow.Author.Needs.{needs}
 use Rattle.vmd_season.specs.Season.{mean}
 use Rattle.vmd_c.specs.Seasons.{mean-without}
-use Rattle.vmd_c.specs.Meaning.{mean-words}
+use Rattle.vmd_slots.specs.Meaning.{mean-words}
 use Rattle.vmd_c.proofs.vmd_season_mean.Statement.{statement}
 use Rattle.vmd_c.proofs.vmd_season_mean.Tie as tie
 

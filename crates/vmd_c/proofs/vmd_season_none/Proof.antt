@@ -1,7 +1,7 @@
 -- `vmd_c::vmd_season_none` meets its contract. Assumes nothing.
 use mathlib.Core.Path.{ap, _∙_}
 use borrow.Author.Needs.{needs}
-use Rattle.vmd_c.specs.Meaning.{season-counts, season-figures}
+use Rattle.vmd_slots.specs.Meaning.{season-counts, season-figures}
 use Rattle.vmd_c.proofs.vmd_season_none.Statement.{statement}
 use Rattle.vmd_c.proofs.vmd_season_none.Tie as tie
 

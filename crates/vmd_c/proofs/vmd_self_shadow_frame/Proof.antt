@@ -4,8 +4,8 @@ use borrow.Author.Needs.{needs}
 use Rattle.vmd_format.specs.Records.{self-shadow}
 use Rattle.vmd_records.specs.Fields.{self-shadow-fields}
 use Rattle.vmd_reader.specs.Meaning.{self-shadow-answer}
-use Rattle.vmd_c.specs.Meaning.{self-shadow-words}
-use Rattle.vmd_c.proofs.Laws.{fetch-at, refused, found}
+use Rattle.vmd_slots.specs.Meaning.{self-shadow-words}
+use Rattle.vmd_slots.proofs.Laws.{fetch-at, refused, found}
 use Rattle.vmd_c.proofs.vmd_self_shadow_frame.Statement.{statement}
 use Rattle.vmd_c.proofs.vmd_self_shadow_frame.Tie as tie
 

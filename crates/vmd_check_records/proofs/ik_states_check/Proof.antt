@@ -4,7 +4,7 @@ use native.Mathlib.Omega.{arith}
 use borrow.Author.Needs.{needs}
 use Rattle.vmd_format.specs.Records.{ik-state}
 use Rattle.vmd_format.specs.Parts.{ik-check}
-use Rattle.vmd_format.specs.SizedLaws.{ik-state-sized}
+use Rattle.vmd_laws.specs.SizedLaws.{ik-state-sized}
 use Rattle.vmd_names.specs.Meaning.{check-of}
 use Rattle.vmd_check_records.proofs.Records.{Checking, checking-start, checking-lies, checking-fails, checking-turn, checking-end}
 use Rattle.vmd_check_records.proofs.ik_states_check.Statement.{statement}

@@ -6,7 +6,7 @@ use lib.ListN.{length}
 use borrow.Author.Needs.{needs}
 use Rattle.vmd_format.specs.Records.{light}
 use Rattle.vmd_format.specs.Parts.{light-check}
-use Rattle.vmd_format.specs.SizedLaws.{light-sized}
+use Rattle.vmd_laws.specs.SizedLaws.{light-sized}
 use Rattle.vmd_names.specs.Meaning.{check-of}
 use Rattle.vmd_check_records.proofs.Records.{Checking, records-start, records-are, checking-lies, checking-fails, checking-turn, checking-end}
 use Rattle.vmd_check_records.proofs.lights_check.Statement.{statement}

@@ -1,7 +1,7 @@
 -- `vmd_checks::parts_whole` meets its contract. Assumes nothing.
 use mathlib.Core.Path.{refl}
 use borrow.Author.Needs.{needs}
-use Rattle.vmd_format.specs.SizedLaws.{camera-sized, light-sized, self-shadow-sized}
+use Rattle.vmd_laws.specs.SizedLaws.{camera-sized, light-sized, self-shadow-sized}
 use Rattle.vmd_checks.specs.Stages.{all-whole}
 use Rattle.vmd_names.proofs.Checks.{and-fails, and-on}
 use Rattle.vmd_check_records.proofs.Records.{none-over, some-over}

@@ -5,7 +5,7 @@ use native.Mathlib.Omega.{arith}
 use lib.ListN.{length}
 use Rattle.vmd_keys.specs.KeyLaws.{key-top}
 use Rattle.vmd_keys.specs.Keys.{top, key}
-use Rattle.vmd_format.specs.BytesLaws.{Bytes}
+use Rattle.vmd_laws.specs.BytesLaws.{Bytes}
 use Rattle.vmd_count.proofs.Counts.{names-most, bytes-most, count-start, count-more, count-end}
 use Rattle.vmd_count.proofs.HeldLaws.{marked-small, floor-rises}
 use Rattle.vmd_count.specs.Held.{low, weight-below, one}

@@ -3,7 +3,7 @@ use native.Mathlib.Omega.{arith}
 use borrow.Author.Needs.{needs}
 use Rattle.vmd_keys.specs.KeyLaws.{rank-key, key-top}
 use Rattle.vmd_keys.specs.Keys.{key}
-use Rattle.vmd_format.specs.BytesLaws.{Bytes}
+use Rattle.vmd_laws.specs.BytesLaws.{Bytes}
 use Rattle.vmd_count.proofs.Counts.{row-names, row-bytes}
 use Rattle.vmd_count.proofs.HeldLaws.{sorted-row, low-high}
 use Rattle.vmd_count.proofs.tally.Statement.{statement}

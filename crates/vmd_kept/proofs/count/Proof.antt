@@ -3,7 +3,7 @@ use mathlib.Core.Path.{_≡_, refl, sym, _∙_}
 use native.Mathlib.Omega.{arith}
 use lib.ListN.{length}
 use lib.Seq.{length-take-le, length-front}
-use Rattle.vmd_format.specs.BytesLaws.{Bytes}
+use Rattle.vmd_laws.specs.BytesLaws.{Bytes}
 use Rattle.vmd_keys.specs.Names.{select}
 use Rattle.vmd_tracks.specs.Tracks.{lasts}
 use Rattle.vmd_sort.specs.Order.{key}

@@ -3,7 +3,7 @@ use mathlib.Core.Path.{_≡_}
 use Prim.Native.Nat.{_*_, _-_, _≤_}
 use native.Mathlib.Omega.{arith}
 use lib.ListN.{take}
-use Rattle.vmd_format.specs.BytesLaws.{Bytes}
+use Rattle.vmd_laws.specs.BytesLaws.{Bytes}
 use Rattle.vmd_sort.specs.Walk.{states-there, total}
 use Rattle.vmd_kept.proofs.Totals.{weigh-start, weigh-turn}
 use Rattle.vmd_kept.proofs.weigh.Statement.{statement}

@@ -2,7 +2,7 @@
 use mathlib.Core.Path.{sym, ap, _∙_}
 use borrow.Author.Needs.{needs}
 use lib.ListN.{length}
-use Rattle.vmd_format.specs.InsideLaws.{opened-few}
+use Rattle.vmd_laws.specs.InsideLaws.{opened-few}
 use Rattle.vmd_reader.specs.Meaning.{opening-answer}
 use Rattle.vmd_line.specs.Line.{too-long, numbers}
 use Rattle.vmd_line.proofs.Laws.{line-long, line-refused, line-opened, scratch-long, scratch-short}

@@ -3,7 +3,7 @@ use mathlib.Core.Path.{_∙_, sym}
 use Prim.Native.Nat.{_≤_, _-_}
 use native.Mathlib.Omega.{arith}
 use lib.ListN.{length}
-use Rattle.vmd_format.specs.NamesLaws.{GoodTo, fault-start, fault-stop, unit-end}
+use Rattle.vmd_laws.specs.NamesLaws.{GoodTo, fault-start, fault-stop, unit-end}
 use Rattle.vmd_names.proofs.Names.{unit-within, good-turn}
 use Rattle.vmd_names.proofs.first_fault.Statement.{statement}
 use Rattle.vmd_names.proofs.first_fault.Tie as tie

@@ -2,7 +2,7 @@
 use native.Mathlib.Omega.{arith}
 use borrow.Author.Needs.{needs}
 use Rattle.vmd_format.specs.Join.{file-length}
-use Rattle.vmd_format.specs.AnswerLaws.{within-over}
+use Rattle.vmd_laws.specs.AnswerLaws.{within-over}
 use Rattle.vmd_output.proofs.file_size.Statement.{statement}
 use Rattle.vmd_output.proofs.file_size.Tie as tie
 

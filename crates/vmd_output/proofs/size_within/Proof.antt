@@ -1,7 +1,7 @@
 -- `vmd_output::size_within` meets its contract. Assumes nothing.
 use native.Mathlib.Omega.{arith}
 use borrow.Author.Needs.{needs}
-use Rattle.vmd_format.specs.AnswerLaws.{within-fits, within-over}
+use Rattle.vmd_laws.specs.AnswerLaws.{within-fits, within-over}
 use Rattle.vmd_output.proofs.size_within.Statement.{statement}
 use Rattle.vmd_output.proofs.size_within.Tie as tie
 

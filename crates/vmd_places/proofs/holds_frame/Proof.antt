@@ -5,7 +5,7 @@ use native.Mathlib.Omega.{arith}
 use lib.ListN.{length}
 use borrow.Author.Needs.{needs}
 use borrow.Author.Tests.{lt-leb}
-use Rattle.vmd_format.specs.PlacesLaws.{leb-same}
+use Rattle.vmd_laws.specs.PlacesLaws.{leb-same}
 use Rattle.vmd_places.proofs.holds_frame.Statement.{statement}
 use Rattle.vmd_places.proofs.holds_frame.Tie as tie
 

@@ -1,9 +1,9 @@
 -- `vmd_reader::open_file` meets its contract. Assumes nothing.
 use mathlib.Core.Path.{_≡_, sym, ap, _∙_}
 use borrow.Author.Needs.{needs}
-use Rattle.vmd_format.specs.Places.{scan-file}
+use Rattle.vmd_laws.specs.Places.{scan-file}
 use Rattle.vmd_scan.specs.Meaning.{scan-answer}
-use Rattle.vmd_format.specs.InsideLaws.{inside-file}
+use Rattle.vmd_laws.specs.InsideLaws.{inside-file}
 use Rattle.vmd_base.specs.Meaning.{manner-of}
 use Rattle.vmd_reader.proofs.Laws.{open-refused, open-scanned, scratch-refused, scratch-scanned}
 use Rattle.vmd_reader.proofs.open_file.Statement.{statement}

@@ -1,7 +1,7 @@
 -- `vmd_reader::open_sections` meets its contract. Assumes nothing.
 use native.Mathlib.Omega.{arith}
 use borrow.Author.Needs.{needs}
-use Rattle.vmd_format.specs.InsideLaws.{inside-reaches}
+use Rattle.vmd_laws.specs.InsideLaws.{inside-reaches}
 use Rattle.vmd_reader.proofs.Laws.{opens, opens-not, fills, fills-not}
 use Rattle.vmd_reader.proofs.open_sections.Statement.{statement}
 use Rattle.vmd_reader.proofs.open_sections.Tie as tie

@@ -1,7 +1,7 @@
 -- `vmd_scan::ended_at` meets its contract. Assumes nothing.
 use borrow.Author.Needs.{needs}
 use borrow.Author.Tests.{le-leb, lt-leb}
-use Rattle.vmd_format.specs.Places.{over-if}
+use Rattle.vmd_laws.specs.Places.{over-if}
 use Rattle.vmd_scan.proofs.ended_at.Statement.{statement}
 use Rattle.vmd_scan.proofs.ended_at.Tie as tie
 

@@ -1,6 +1,6 @@
 -- `vmd_scan::no_section` meets its contract. Assumes nothing.
 use mathlib.Core.Path.{refl}
-use Rattle.vmd_format.specs.Places.{no-span}
+use Rattle.vmd_laws.specs.Places.{no-span}
 use Rattle.vmd_scan.proofs.no_section.Statement.{statement}
 use Rattle.vmd_scan.proofs.no_section.Tie as tie
 

@@ -1,6 +1,6 @@
 -- `vmd_scan::oversized_section` meets its contract. Assumes nothing.
 use borrow.Author.Needs.{needs}
-use Rattle.vmd_format.specs.Places.{over-span}
+use Rattle.vmd_laws.specs.Places.{over-span}
 use Rattle.vmd_scan.proofs.oversized_section.Statement.{statement}
 use Rattle.vmd_scan.proofs.oversized_section.Tie as tie
 

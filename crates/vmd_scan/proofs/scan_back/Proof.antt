@@ -2,7 +2,7 @@
 use mathlib.Core.Path.{sym, ap, _∙_}
 use borrow.Author.Needs.{needs}
 use Rattle.vmd_format.specs.Answer.{and-then}
-use Rattle.vmd_format.specs.Places.{extent-in}
+use Rattle.vmd_laws.specs.Places.{extent-in}
 use Rattle.vmd_scan.specs.Meaning.{span-answer}
 use Rattle.vmd_scan.specs.Stages.{scan-back}
 use Rattle.vmd_scan.proofs.scan_back.Statement.{statement}

@@ -2,7 +2,7 @@
 use mathlib.Core.Path.{sym, ap, _∙_}
 use borrow.Author.Needs.{needs}
 use Rattle.vmd_format.specs.Answer.{and-then}
-use Rattle.vmd_format.specs.Places.{over-if}
+use Rattle.vmd_laws.specs.Places.{over-if}
 use Rattle.vmd_scan.specs.Meaning.{walk-answer}
 use Rattle.vmd_scan.specs.Stages.{scan-end}
 use Rattle.vmd_scan.proofs.scan_end.Statement.{statement}

@@ -2,9 +2,9 @@
 use mathlib.Core.Path.{sym, ap, _∙_}
 use borrow.Author.Needs.{needs}
 use Rattle.vmd_format.specs.Answer.{and-then}
-use Rattle.vmd_format.specs.Places.{scan-file}
-use Rattle.vmd_scan.specs.Meaning.{header-answer}
-use Rattle.vmd_scan.proofs.Laws.{sections-begin, header-headed, header-refused}
+use Rattle.vmd_laws.specs.Places.{scan-file}
+use Rattle.vmd_header.specs.Meaning.{header-answer}
+use Rattle.vmd_header.proofs.Laws.{sections-begin, header-headed, header-refused}
 use Rattle.vmd_scan.proofs.scan_file.Statement.{statement}
 use Rattle.vmd_scan.proofs.scan_file.Tie as tie
 

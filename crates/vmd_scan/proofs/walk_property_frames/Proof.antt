@@ -5,8 +5,8 @@ use mathlib.Core.Path.{_≡_, sym, _∙_}
 use native.Mathlib.Nat.{sub-zero}
 use native.Mathlib.Omega.{arith}
 use lib.ListN.{length}
-use Rattle.vmd_format.specs.Places.{walk}
-use Rattle.vmd_format.specs.PlacesLaws.{walk-done, walk-short, walk-over}
+use Rattle.vmd_laws.specs.Places.{walk}
+use Rattle.vmd_laws.specs.PlacesLaws.{walk-done, walk-short, walk-over}
 use Rattle.vmd_scan.proofs.Laws.{walk-turn}
 use Rattle.vmd_scan.proofs.walk_property_frames.Statement.{statement}
 use Rattle.vmd_scan.proofs.walk_property_frames.Tie as tie

@@ -2,7 +2,7 @@
 use Rattle.vmd_split.proofs.Laws.{fits-agree, parts-rooms, split-refused, split-over, split-into, sizes-done, parts-done}
 use Rattle.vmd_output.proofs.Saves.{heard}
 use Rattle.vmd_scan.specs.Meaning.{scan-answer}
-use Rattle.vmd_format.specs.ExportLaws.{scan-scanned}
+use Rattle.vmd_laws.specs.ExportLaws.{scan-scanned}
 use borrow.Author.Tests.{not-true, not-false}
 use mathlib.Core.Path.{sym, _∙_}
 use borrow.Author.Needs.{needs}

@@ -4,7 +4,7 @@ use native.Mathlib.Omega.{arith}
 use borrow.Author.Needs.{needs}
 use Rattle.vmd_output.proofs.Saves.{heard}
 use Rattle.vmd_scan.specs.Meaning.{scan-is, scan-answer}
-use Rattle.vmd_format.specs.InsideLaws.{inside-file}
+use Rattle.vmd_laws.specs.InsideLaws.{inside-file}
 use Rattle.vmd_split.proofs.Laws.{counted, sizes-refused, sizes-given, sizes-over}
 use Rattle.vmd_split.proofs.split_vmd_sizes.Statement.{statement}
 use Rattle.vmd_split.proofs.split_vmd_sizes.Tie as tie

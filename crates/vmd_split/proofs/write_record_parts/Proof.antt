@@ -1,8 +1,8 @@
 -- `vmd_split::write_record_parts` meets its contract. Assumes nothing.
 use native.Mathlib.Omega.{arith}
 use borrow.Author.Needs.{needs}
-use Rattle.vmd_format.specs.SizedLaws.{camera-sized, light-sized, self-shadow-sized}
-use Rattle.vmd_format.specs.InsideLaws.{inside-reaches}
+use Rattle.vmd_laws.specs.SizedLaws.{camera-sized, light-sized, self-shadow-sized}
+use Rattle.vmd_laws.specs.InsideLaws.{inside-reaches}
 use Rattle.vmd_split.proofs.Room.{record-rooms, rows-room, frames-room, wrote-over}
 use Rattle.vmd_split.proofs.write_record_parts.Statement.{statement}
 use Rattle.vmd_split.proofs.write_record_parts.Tie as tie

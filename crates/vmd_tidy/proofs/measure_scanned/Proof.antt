@@ -2,7 +2,7 @@
 use Rattle.vmd_tidy.specs.StageLaws.{largest-is, tidied-bytes, fitting-short, fitting-over, fitting-given, reported, cleared-is}
 use Rattle.vmd_tidy.specs.Tidied.{cleared, longest}
 use Rattle.vmd_scan.specs.Meaning.{scan-is}
-use Rattle.vmd_format.specs.ExportLaws.{take-in}
+use Rattle.vmd_laws.specs.ExportLaws.{take-in}
 use Rattle.vmd_format.specs.Answer.{map-answer, left, given}
 use borrow.Author.Tests.{not-true, not-false, leb-true}
 use lib.ListN.{length}

@@ -5,7 +5,7 @@ use Rattle.vmd_tidy_sections.specs.Sections.{tidied-places}
 use Rattle.vmd_tidy_sections.specs.RunLaws.{fixed-ends}
 use Rattle.vmd_records.specs.declared.VmdKind.the-variants as kind
 use Rattle.vmd_base.specs.Meaning.{extent-is}
-use Rattle.vmd_format.specs.BytesLaws.{Bytes}
+use Rattle.vmd_laws.specs.BytesLaws.{Bytes}
 use lib.ListN.{length}
 use mathlib.Core.Path.{refl, ap, _∙_}
 use native.Mathlib.Omega.{arith}

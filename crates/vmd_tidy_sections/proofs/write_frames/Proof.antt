@@ -1,7 +1,7 @@
 -- `vmd_tidy_sections::write_frames` meets its contract. Assumes nothing.
 use Rattle.vmd_tidy_sections.specs.RunLaws.{Left, left-start, left-end, run-room, run-then, run-frames}
 use Rattle.vmd_tidy_sections.specs.WalkLaws.{frames-reach}
-use Rattle.vmd_format.specs.PlacesLaws.{property-in}
+use Rattle.vmd_laws.specs.PlacesLaws.{property-in}
 use Rattle.vmd_format.specs.Take.{property}
 use lib.ListN.{length}
 use native.Mathlib.Omega.{arith}

@@ -3,7 +3,7 @@ use Rattle.vmd_tidy_sections.specs.SectionLaws.{frames-count, frames-byt
 use Rattle.vmd_tidy_sections.specs.FrontLaws.{front-count}
 use Rattle.vmd_bytes.proofs.Writes.{rest-as, rest-room, rest-then, rest-done}
 use Rattle.vmd_base.specs.Meaning.{extent-is}
-use Rattle.vmd_format.specs.PlacesLaws.{property-in}
+use Rattle.vmd_laws.specs.PlacesLaws.{property-in}
 use Rattle.vmd_format.specs.Take.{property}
 use Rattle.vmd_format.specs.Read.{write-all}
 use lib.ListN.{take}

@@ -4,7 +4,7 @@ use native.Mathlib.Omega.{arith}
 use lib.ListN.{length, getD}
 use borrow.Author.Needs.{needs}
 use Rattle.vmd_format.specs.Records.{bone}
-use Rattle.vmd_format.specs.SizedLaws.{bone-sized}
+use Rattle.vmd_laws.specs.SizedLaws.{bone-sized}
 use Rattle.vmd_check_tables.specs.Meaning.{table-of}
 use Rattle.vmd_check_columns.specs.Meaning.{bits}
 use Rattle.vmd_write_columns.specs.Stages.{bone-of}

@@ -3,8 +3,8 @@ use native.Mathlib.Omega.{arith}
 use denote.Ref.{now}
 use borrow.Author.Needs.{needs}
 use Rattle.vmd_format.specs.Bytes.{before-zero, padded, is-set, flag-byte}
-use Rattle.vmd_format.specs.BytesLaws.{padded-length}
-use Rattle.vmd_format.specs.Rewriting.{ik-state-rewrites}
+use Rattle.vmd_laws.specs.BytesLaws.{padded-length}
+use Rattle.vmd_laws.specs.Rewriting.{ik-state-rewrites}
 use Rattle.vmd_writers.proofs.Records.{flagged}
 use Rattle.vmd_write_properties.proofs.write_ik_state.Statement.{statement}
 use Rattle.vmd_write_properties.proofs.write_ik_state.Tie as tie

@@ -3,7 +3,7 @@ use native.Mathlib.Omega.{arith}
 use lib.ListN.{drop}
 use Rattle.vmd_format.specs.Read.{table, write-all}
 use Rattle.vmd_format.specs.Records.{ik-state}
-use Rattle.vmd_format.specs.SizedLaws.{ik-state-sized}
+use Rattle.vmd_laws.specs.SizedLaws.{ik-state-sized}
 use Rattle.vmd_writers.proofs.Records.{Going, going-start, going-turn, going-end}
 use Rattle.vmd_write_properties.proofs.write_ik_states.Statement.{statement}
 use Rattle.vmd_write_properties.proofs.write_ik_states.Tie as tie

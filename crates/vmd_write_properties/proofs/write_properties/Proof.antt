@@ -2,7 +2,7 @@
 use native.Mathlib.Omega.{arith}
 use Rattle.vmd_format.specs.Take.{property}
 use Rattle.vmd_format.specs.Read.{write-all}
-use Rattle.vmd_format.specs.PlacesLaws.{frames-in}
+use Rattle.vmd_laws.specs.PlacesLaws.{frames-in}
 use Rattle.vmd_format.specs.Fetch.{next-frame}
 use Rattle.vmd_write_properties.proofs.Properties.{Walking, walking-start, walking-lies, walking-room, walking-turn, walking-end}
 use Rattle.vmd_write_properties.proofs.write_properties.Statement.{statement}

@@ -4,7 +4,7 @@ use borrow.Author.Needs.{needs}
 use lib.ListN.{drop, length-set}
 use Prim.Native.Nat.{_+_}
 use denote.Ref.{now}
-use Rattle.vmd_format.specs.SizedLaws.{ik-state-sized}
+use Rattle.vmd_laws.specs.SizedLaws.{ik-state-sized}
 use Rattle.vmd_format.specs.Fetch.{next-frame}
 use Rattle.vmd_write_properties.proofs.Properties.{frame-written}
 use Rattle.vmd_writers.proofs.Records.{room-section}

@@ -4,7 +4,7 @@ use denote.Ref.{now}
 use borrow.Author.Needs.{needs}
 use Rattle.vmd_format.specs.Bytes.{is-zero, inverted-byte}
 use Rattle.vmd_bytes.proofs.Laws.{length-run}
-use Rattle.vmd_format.specs.Rewriting.{camera-rewrites}
+use Rattle.vmd_laws.specs.Rewriting.{camera-rewrites}
 use Rattle.vmd_writers.proofs.Records.{flagged}
 use Rattle.vmd_writers.proofs.write_camera.Statement.{statement}
 use Rattle.vmd_writers.proofs.write_camera.Tie as tie

@@ -2,8 +2,8 @@
 use native.Mathlib.Omega.{arith}
 use borrow.Author.Needs.{needs}
 use denote.Ref.{now}
-use Rattle.vmd_format.specs.SizedLaws.{light-sized}
-use Rattle.vmd_format.specs.Rewriting.{light-rewrites}
+use Rattle.vmd_laws.specs.SizedLaws.{light-sized}
+use Rattle.vmd_laws.specs.Rewriting.{light-rewrites}
 use Rattle.vmd_writers.proofs.Records.{section-room, section-copied}
 use Rattle.vmd_writers.proofs.write_lights.Statement.{statement}
 use Rattle.vmd_writers.proofs.write_lights.Tie as tie

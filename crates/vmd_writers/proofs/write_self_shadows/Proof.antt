@@ -2,8 +2,8 @@
 use native.Mathlib.Omega.{arith}
 use borrow.Author.Needs.{needs}
 use denote.Ref.{now}
-use Rattle.vmd_format.specs.SizedLaws.{self-shadow-sized}
-use Rattle.vmd_format.specs.Rewriting.{self-shadow-rewrites}
+use Rattle.vmd_laws.specs.SizedLaws.{self-shadow-sized}
+use Rattle.vmd_laws.specs.Rewriting.{self-shadow-rewrites}
 use Rattle.vmd_writers.proofs.Records.{section-room, section-copied}
 use Rattle.vmd_writers.proofs.write_self_shadows.Statement.{statement}
 use Rattle.vmd_writers.proofs.write_self_shadows.Tie as tie

@@ -1,7 +1,7 @@
 -- `vmd_season::VmdSeason::add` meets its contract. Assumes nothing.
 use mathlib.Core.Path.{_∙_, sym, ap}
 use borrow.Author.Needs.{needs}
-use Rattle.vmd_format.specs.ExportLaws.{scan-scanned}
+use Rattle.vmd_laws.specs.ExportLaws.{scan-scanned}
 use Rattle.vmd_scan.specs.Meaning.{scan-answer}
 use Rattle.vmd_season.proofs.Laws.{file-refused, file-taken}
 use Rattle.vmd_season.proofs.VmdSeason.add.Statement.{statement}

@@ -1,0 +1,1 @@
+// The laws of the VMD format, in specs/, no code.

@@ -1,0 +1,9 @@
+pub mod Split
+pub mod Passing
+pub mod Fitting
+pub mod Columns
+pub mod PartsMean
+pub mod Rebuilding
+pub mod SplitRefusals
+pub mod Given
+pub mod Examples

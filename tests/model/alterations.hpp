@@ -1,0 +1,157 @@
+// Deliberate errors of the model. Each is switched on by its number; a run that does not find it would be blind to it.
+#ifndef ALTERATIONS_HPP
+#define ALTERATIONS_HPP
+
+namespace model {
+
+// letter of the request ('0': the base, document 01), name, what the altered model does
+#define VMD_ALTERATIONS(X)                                                                                                   \
+    X('0', MagicWhole, "asks all 30 bytes of the magic")                                                                     \
+    X('0', ShortHeaderIs2, "a newer header of fewer than 50 bytes is 2")                                                     \
+    X('0', OversizedCameraRefused, "an oversized camera count is 1")                                                         \
+    X('0', LightsAfterOversized, "reads lights after an oversized camera count")                                             \
+    X('0', OversizedShadowRefused, "an oversized self-shadow count is 1")                                                    \
+    X('0', BytesOverRefused, "bytes after the last property frame are 1")                                                    \
+    X('0', ThreeBytesAreNone, "one to three bytes left at a count are taken as none")                                        \
+    X('0', BoneCountOptional, "a file of 50 bytes is accepted")                                                              \
+    X('0', PlaceBeforeCount, "a section's place is before its count")                                                        \
+    X('0', MissingPlaceZero, "the place of a missing section is 0")                                                          \
+    X('0', EmptiedPlaceKept, "the place of an emptied section is just after its count")                                      \
+    X('0', IkOfLastFrame, "the IK states are those of the last property frame")                                              \
+    X('0', PerspectiveOne, "perspective is true for the byte 1")                                                             \
+    X('0', NameWholeField, "a name does not end before its first zero byte")                                                 \
+    X('0', VisibleOnlyOne, "visible is true for the byte 1 alone")                                                           \
+    X('0', EnabledOnlyOne, "IK enabled is true for the byte 1 alone")                                                        \
+    X('0', ModeFlag, "the self-shadow mode is cut to 0, 1 or 2")                                                             \
+    X('0', ZeroesMerged, "a float -0 is written as +0")                                                                      \
+    X('0', NanMerged, "every NaN is written as the same NaN")                                                                \
+    X('0', ModelNameUntested, "the model name is given where the magic differs")                                             \
+    X('0', ModelNameOfAccepted, "the model name is empty where the file is refused after its header")                        \
+    X('0', FetchAtCount, "the record at the count is fetched")                                                               \
+    X('0', FetchWraps, "a place whose sum wraps is taken as it comes out")                                                   \
+    X('0', FetchOneShort, "a record that ends with the file is 4")                                                           \
+    X('0', IkAtCount, "the IK state at the frame's count is fetched")                                                        \
+    X('0', CountsNotAsked, "a fetch looks at places only, not at the count")                                                 \
+    X('0', ExactIs13, "an output of just the export's length is 13")                                                         \
+    X('0', OutputCleared, "the rest of the output is set to zero")                                                           \
+    X('0', RefusedWritesSize, "written receives the length although the output is too short")                                \
+    X('0', JoinSwapped, "every section is the second file's records, then the first's")                                      \
+    X('0', JoinMorphsSwapped, "the morphs alone are the second file's, then the first's")                                    \
+    X('0', JoinModelSecond, "the joined model name is the second's where that is not empty")                                 \
+    X('0', JoinSecondRefusedFirst, "joining tests the second file before the first")                                         \
+    X('0', BuildColumnsFirst, "building tests 10 before cameras")                                                            \
+    X('0', BuildFloatFirst, "of one bone or morph, 8 is tested before 12")                                                   \
+    X('0', BuildIndicesFirst, "12 is tested for all bones before 8 for any")                                                 \
+    X('0', BuildMode3, "a self-shadow mode of 3 is taken")                                                                   \
+    X('0', BuildName16, "a table name of 16 bytes is taken")                                                                 \
+    X('0', BuildMorphNamesFirst, "morph names are tested before bone names")                                                 \
+    X('0', BuildAllSixesFirst, "6 is tested for all names of a table before 7 for any")                                      \
+    X('0', BuildViewFinite, "the field of view is tested as a float")                                                        \
+    X('0', BuildFallingEnds, "a name table may fall")                                                                        \
+    X('0', BuildWholeLast, "5 of record bytes is tested after the names")                                                    \
+    X('0', BuildIkBeforeShadows, "IK names are tested before self-shadows")                                                  \
+    X('0', BuildIkWholeField, "an IK name's bytes after its first zero are tested too")                                      \
+    X('0', BuildInfinityTaken, "an infinity is taken for finite")                                                            \
+    X('a', SplitLastAppearance, "table names stand in order of last appearance")                                             \
+    X('a', SplitRawFields, "names are told apart by their whole fields")                                                     \
+    X('a', SplitLineFeed, "names are told apart up to the line feed")                                                        \
+    X('a', SplitExactIs14, "a buffer of just the needed length is 14")                                                       \
+    X('a', SplitRestCleared, "places past those written are set to zero")                                                    \
+    X('a', SplitRawFlags, "camera records keep their perspective byte")                                                      \
+    X('a', SplitBytes15, "15 bytes are counted for each name")                                                               \
+    X('a', SplitPropertiesShort, "the property buffer needs 9p bytes only")                                                  \
+    X('a', SplitBeginnings, "a table holds where names begin")                                                               \
+    X('a', SplitSizesOn14, "sizes is written although the answer is 14")                                                     \
+    X('a', SplitEmptyNameNone, "the empty name is no table entry")                                                           \
+    X('b', SeasonEmptyNotSmallest, "a section without records does not count for the smallest")                              \
+    X('b', SeasonRefusedAdds, "a take that would pass 64 bits adds to the largest counts")                                   \
+    X('b', SeasonRefusedWraps, "the refused number wraps")                                                                   \
+    X('b', SeasonSmallestStays, "with none accepted the smallest is below what stood there")                                 \
+    X('b', SeasonFirstFive, "the mean's total leaves out properties")                                                        \
+    X('b', SeasonExactRefused, "a figure that comes to its largest value is refused")                                        \
+    X('b', SeasonMeanNone, "with none accepted the mean divides by one")                                                     \
+    X('b', SeasonLargestLast, "largest is the last take's")                                                                  \
+    X('b', SeasonRawFields, "names are told apart by their whole fields")                                                    \
+    X('b', SeasonNameRecords, "each record's name is counted")                                                               \
+    X('b', SeasonMeanRounded, "the mean is rounded up")                                                                      \
+    X('b', SeasonRefusedStops, "a take refused at the refused number's end adds to accepted")                                \
+    X('c', SmallestNoneLargest, "with no records the smallest frame is 4,294,967,295")                                       \
+    X('c', SmallestTwoSections, "the smallest frame is over bones and morphs")                                               \
+    X('c', SmallestEmptySections, "an empty section counts as frame 0")                                                      \
+    X('c', SmallestNoProperties, "property frames do not count")                                                             \
+    X('c', SmallestFirstRecords, "only the first record of each section counts")                                             \
+    X('c', SmallestAfterLargest, "the smallest frame stands after the largest")                                              \
+    X('c', SmallestNotZero, "frame 0 does not count")                                                                        \
+    X('c', SmallestJoinEmpty, "in joining a take without records counts as frame 0")                                         \
+    X('d', FaultSecondByte, "of a bad pair the second byte's place is given")                                                \
+    X('d', FaultA0Good, "the byte 0xA0 is good")                                                                             \
+    X('d', FaultTrail7F, "0x7F is a trail")                                                                                  \
+    X('d', FaultTrail80, "0x80 is no trail")                                                                                 \
+    X('d', FaultSingle80, "0x80 is not good")                                                                                \
+    X('d', FaultLeadFD, "0xFD is a lead")                                                                                    \
+    X('d', FaultLoneLead, "a lead at the end is good")                                                                       \
+    X('d', FaultLast, "the last fault is given")                                                                             \
+    X('d', FaultLeadE0, "0xE0 is no lead")                                                                                   \
+    X('e', OlderLimit9, "a model name of 10 bytes is 15")                                                                    \
+    X('e', OlderLimit11, "a model name of 11 bytes is taken")                                                                \
+    X('e', OlderShortIs2, "an older file of fewer than 40 bytes is 2")                                                       \
+    X('e', OlderAfter13, "15 is tested after 13")                                                                            \
+    X('e', OlderNameOf20, "an older file has a model name of 20 bytes")                                                      \
+    X('e', OlderMagicLeft, "the converter writes the newer magic")                                                           \
+    X('e', OlderPlacesWidened, "places are those after the header was widened")                                              \
+    X('e', OlderStillRefused, "older files are 2")                                                                           \
+    X('e', OlderMagicNoZero, "the older magic is asked without its zero byte")                                               \
+    X('e', OlderFieldKept, "the converter copies bytes 26 to 29 of the file")                                                \
+    X('e', OlderExported, "the export of an older file is of the older edition")                                             \
+    X('f', ScratchEachEighth, "a place for each 8th frame")                                                                  \
+    X('f', ScratchRoundedDown, "a sixteenth of the frames, rounded down, is enough")                                         \
+    X('f', ScratchEachFrame, "refusal 3 where the scratch has fewer places than frames")                                     \
+    X('f', WalkSixteen, "frame 16 is found by a walk from place 0")                                                          \
+    X('f', WalkUnchecked, "a frame walked over needs its nine bytes in the file only")                                       \
+    X('f', WalkAskedWhole, "the frame asked for needs its IK states in the file")                                            \
+    X('f', WalkFromLast, "where the scratch is too short the walk starts at its last place")                                 \
+    X('f', WalkAtOneShort, "property_frame_at asks for one byte after the frame")                                            \
+    X('f', ScratchRestCleared, "further places are set to zero")                                                             \
+    X('g', TidyFirstKept, "the first record of a frame is kept")                                                             \
+    X('g', TidyUnsorted, "records stay in file order")                                                                       \
+    X('g', TidyDescending, "tracks are sorted the other way")                                                                \
+    X('g', TidySigned, "frames are compared as signed numbers")                                                              \
+    X('g', TidyOneTrack, "bones are one track")                                                                              \
+    X('g', TidyTracksByName, "tracks stand in order of their names")                                                         \
+    X('g', TidyLineFeed, "names belong to one track up to the line feed")                                                    \
+    X('g', TidyScratchLeft, "the scratch keeps its contents")                                                                \
+    X('g', TidyScratchAll, "the whole scratch is set to zero")                                                               \
+    X('g', TidyScratchBones, "the scratch has one place per bone")                                                           \
+    X('g', TidyThreeLast, "3 is tested after 13")                                                                            \
+    X('g', TidyDropsNoProperty, "property frames are not dropped")                                                           \
+    X('g', TidyKeptIsRead, "kept is the number of records read")                                                             \
+    X('g', TidyNothingDropped, "each record is a track of its own")                                                           \
+    X('g', TidyModelDropped, "the model name is not kept")
+
+enum Alteration : int {
+    AsWritten,
+#define VMD_ALTERATION_NAME(letter, name, what) name,
+    VMD_ALTERATIONS(VMD_ALTERATION_NAME)
+#undef VMD_ALTERATION_NAME
+        AlterationsEnd
+};
+
+struct AlterationNote {
+    char letter;
+    const char *what;
+};
+
+inline constexpr AlterationNote alteration_notes[] = {
+    {' ', "as written"},
+#define VMD_ALTERATION_NOTE(letter, name, what) {letter, what},
+    VMD_ALTERATIONS(VMD_ALTERATION_NOTE)
+#undef VMD_ALTERATION_NOTE
+};
+
+inline int alteration = AsWritten;
+
+inline bool altered(Alteration which) { return alteration == which; }
+
+} // namespace model
+
+#endif

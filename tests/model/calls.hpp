@@ -1,0 +1,592 @@
+// Lent memory between pages that cannot be touched, and every call of the C interface, compared with the model.
+#ifndef CALLS_HPP
+#define CALLS_HPP
+
+#include <csignal>
+#include <cstdio>
+#include <cstdlib>
+#include <cstring>
+#include <stdexcept>
+
+#include <sys/mman.h>
+#include <sys/wait.h>
+#include <unistd.h>
+
+#include "takes.hpp"
+#include "vmd.h"
+
+using namespace takes;
+
+// ---- where the run is, for reports
+
+struct Progress {
+    u64 seed = 0, number = 0, calls = 0, accepted = 0, refused = 0;
+    const char *call = "none";
+    u64 i = 0, j = 0; // the numbers asked for, where the call has any
+    u64 answer = 0;   // the last one
+    std::unordered_map<const char *, std::array<u64, 16>> answers; // of calls that can refuse: how often each number
+};
+static Progress now;
+
+struct Disagreement : std::runtime_error {
+    using std::runtime_error::runtime_error;
+};
+
+[[noreturn]] static void disagree(const std::string &what) { throw Disagreement(std::string(now.call) + ": " + what); }
+
+static void begin(const char *call, u64 i = 0, u64 j = 0) {
+    now.call = call;
+    now.i = i;
+    now.j = j;
+    now.calls++;
+}
+
+// Nothing here allocates.
+static void on_signal(int number) {
+    char line[256];
+    const int n = std::snprintf(line, sizeof line, "\nmodel: signal %d in %s, seed %llu, case %llu, alteration %d\n", number,
+                                now.call, static_cast<unsigned long long>(now.seed),
+                                static_cast<unsigned long long>(now.number), alteration);
+    if (write(1, line, static_cast<std::size_t>(n)) < 0) _exit(3);
+    _exit(3);
+}
+
+// SIGALRM stands for a call that does not end.
+static void catch_signals() {
+    static char stack[65536];
+    stack_t other = {};
+    other.ss_sp = stack;
+    other.ss_size = sizeof stack;
+    sigaltstack(&other, nullptr);
+    struct sigaction action = {};
+    action.sa_handler = on_signal;
+    action.sa_flags = SA_ONSTACK;
+    for (int number : {SIGSEGV, SIGBUS, SIGILL, SIGFPE, SIGABRT, SIGTRAP, SIGALRM}) sigaction(number, &action, nullptr);
+}
+
+// ---- lent memory
+
+static constexpr std::size_t page = 4096;
+
+// Pages between two that cannot be touched. What is lent ends where the second begins, or begins where the first ends; on the
+// open side a strip of known bytes is looked at after the call.
+class Region {
+  public:
+    Region() = default;
+    Region(const Region &) = delete;
+    Region &operator=(const Region &) = delete;
+
+    u8 *lend(const void *contents, std::size_t n, bool at_front) {
+        reserve(n + strip);
+        begin = at_front ? base + page : base + page + room - n;
+        length = n;
+        guarded = at_front ? begin + n : begin - strip;
+        if (n) std::memcpy(begin, contents, n);
+        std::memset(guarded, known, strip);
+        return begin;
+    }
+    bool strip_kept() const {
+        return std::all_of(guarded, guarded + strip, [](u8 b) { return b == known; });
+    }
+
+  private:
+    static constexpr std::size_t strip = 32;
+    static constexpr u8 known = 0xA7;
+
+    void reserve(std::size_t n) {
+        if (n <= room) return;
+        if (base) munmap(base, room + 2 * page);
+        room = std::max<std::size_t>((n + page - 1) / page * page, 4 * page);
+        void *map = mmap(nullptr, room + 2 * page, PROT_NONE, MAP_PRIVATE | MAP_ANONYMOUS, -1, 0);
+        if (map == MAP_FAILED) throw std::runtime_error("no memory");
+        base = static_cast<u8 *>(map);
+        if (mprotect(base + page, room, PROT_READ | PROT_WRITE)) throw std::runtime_error("no memory");
+    }
+
+    u8 *base = nullptr, *begin = nullptr, *guarded = nullptr;
+    std::size_t room = 0, length = 0;
+};
+
+static Rng sides(0); // which side of a region, and whether nothing is lent as a null pointer
+
+// A buffer or slot: want begins as what is lent, and the model turns it into what has to be there after the call.
+template <class T> struct Lent {
+    const char *label;
+    std::vector<T> want;
+    T *at = nullptr;
+    Region region;
+
+    explicit Lent(const char *name) : label(name) {}
+    void lend(const std::vector<T> &contents) {
+        want = contents;
+        place();
+    }
+    void place() {
+        const u64 draw = sides.next();
+        at = reinterpret_cast<T *>(region.lend(want.data(), want.size() * sizeof(T), draw % 4 == 0));
+        if (want.empty() && draw % 8 > 4) at = nullptr;
+    }
+    // n elements of anything, each eight bytes unlike the next
+    void lend_junk(Rng &r, std::size_t n) {
+        want.resize(n);
+        u8 *to = reinterpret_cast<u8 *>(want.data());
+        u64 junk = r.next();
+        for (std::size_t left = n * sizeof(T); left > 0;) {
+            const std::size_t some = std::min<std::size_t>(left, 8);
+            std::memcpy(to, &junk, some);
+            to += some, left -= some, junk += 0x9E3779B97F4A7C15;
+        }
+        place();
+    }
+    std::size_t n() const { return want.size(); }
+    std::vector<T> now_there(std::size_t count) const { return std::vector<T>(at, at + count); }
+
+    void check() const {
+        if (!region.strip_kept()) disagree(std::string("bytes beside '") + label + "' were written");
+        if (n() == 0 || std::memcmp(at, want.data(), n() * sizeof(T)) == 0) return;
+        std::size_t i = 0;
+        while (at[i] == want[i]) i++;
+        char line[200];
+        std::snprintf(line, sizeof line, "'%s' (%zu elements) differs at %zu: expected 0x%llx, got 0x%llx", label, n(), i,
+                      static_cast<unsigned long long>(want[i]), static_cast<unsigned long long>(at[i]));
+        disagree(line);
+    }
+};
+
+static void answer(u64 got, u64 wanted) {
+    if (got != wanted) disagree("expected " + std::to_string(wanted) + ", got " + std::to_string(got));
+    now.answer = wanted;
+    if (wanted < 16) now.answers[now.call][wanted]++;
+}
+
+template <class... Buffers> void check_all(const Buffers &...buffers) { (buffers.check(), ...); }
+
+// A file that is lent; it stays where it is for as long as the same file is lent.
+struct LentFile {
+    Lent<u8> lent;
+    u64 serial = 0;
+
+    explicit LentFile(const char *name) : lent(name) {}
+    void lend(const File &f) {
+        if (serial == f.serial) return;
+        lent.lend(f.bytes);
+        serial = f.serial;
+    }
+    const u8 *at() const { return lent.at; }
+    std::size_t n() const { return lent.n(); }
+    void check() const { lent.check(); }
+};
+
+// ---- the calls, each compared with the model
+
+struct OpenSlots {
+    Words counts;
+    Longs places, totals, scratch;
+};
+
+// Every buffer and slot of the C interface has a region of its own.
+struct Calls {
+    Rng r{0};
+    LentFile first{"file"}, second{"second file"};
+    Lent<u8> out{"out"};
+    Lent<u64> written{"written or size"}, scratch{"scratch"}, places{"places"}, totals{"totals"}, next{"next"};
+    Lent<u64> part{"part"}, part3{"joined part"}, sizes{"sizes"}, figures{"figures"}, mean{"mean"};
+    Lent<u32> counts{"counts"}, record{"record"}, frame{"frame"}, values{"values"}, enabled{"enabled"};
+    Lent<u32> kept{"kept"}, dropped{"dropped"}, season_counts{"season counts"};
+    Lent<u8> name{"name"};
+
+    // the builder's and the split's
+    Lent<u8> p_model{"model_name"}, p_bone_bytes{"bone_name_bytes"}, p_morph_bytes{"morph_name_bytes"};
+    Lent<u32> p_bone_ends{"bone_name_ends"}, p_morph_ends{"morph_name_ends"};
+    Lent<u8> p_cameras{"camera_frames"}, p_lights{"light_frames"}, p_shadows{"self_shadow_frames"};
+    Lent<u8> p_properties{"property_frames"}, p_interpolations{"bone_interpolations"};
+    Lent<u32> p_bone_indices{"bone_name_indices"}, p_bone_frames{"bone_frames"}, p_translations{"bone_translations_xyz"};
+    Lent<u32> p_rotations{"bone_rotations_xyzw"}, p_morph_indices{"morph_name_indices"}, p_morph_frames{"morph_frames"};
+    Lent<u32> p_weights{"morph_weights"};
+
+    // ---- opening
+
+    OpenSlots parse(const File &f, std::size_t scratch_len) {
+        first.lend(f);
+        scratch.lend_junk(r, scratch_len);
+        counts.lend_junk(r, 6);
+        places.lend_junk(r, 6);
+        totals.lend_junk(r, 3);
+        begin("vmd_parse_animation");
+        const u32 got = vmd_parse_animation(first.at(), first.n(), scratch.at, scratch.n(), counts.at, places.at, totals.at);
+        answer(got, parse_animation(f, scratch.want, counts.want, places.want, totals.want));
+        check_all(first, scratch, counts, places, totals);
+        return {counts.want, places.want, totals.want, scratch.want};
+    }
+
+    // ---- fetches: counts, places and scratch are lent once for many of them
+
+    void lend_opening(const File &f, const OpenSlots &o) {
+        first.lend(f);
+        counts.lend(o.counts);
+        places.lend(o.places);
+        scratch.lend(o.scratch);
+    }
+    void check_fetch(u32 got, int wanted) {
+        answer(got, static_cast<u64>(wanted));
+        check_all(first, counts, places, record);
+    }
+    void bone_frame(const File &f, u64 i) {
+        record.lend_junk(r, 8);
+        begin("vmd_bone_frame", i);
+        const u32 got = vmd_bone_frame(first.at(), first.n(), counts.at, places.at, i, record.at);
+        check_fetch(got, model::bone_frame(f.bytes, counts.want, places.want, i, record.want));
+    }
+    void morph_frame(const File &f, u64 i) {
+        record.lend_junk(r, 2);
+        begin("vmd_morph_frame", i);
+        const u32 got = vmd_morph_frame(first.at(), first.n(), counts.at, places.at, i, record.at);
+        check_fetch(got, model::morph_frame(f.bytes, counts.want, places.want, i, record.want));
+    }
+    void camera_frame(const File &f, u64 i) {
+        record.lend_junk(r, 10);
+        begin("vmd_camera_frame", i);
+        const u32 got = vmd_camera_frame(first.at(), first.n(), counts.at, places.at, i, record.at);
+        check_fetch(got, model::camera_frame(f.bytes, counts.want, places.want, i, record.want));
+    }
+    void light_frame_bits(const File &f, u64 i) {
+        record.lend_junk(r, 7);
+        begin("vmd_light_frame_bits", i);
+        const u32 got = vmd_light_frame_bits(first.at(), first.n(), counts.at, places.at, i, record.at);
+        check_fetch(got, model::light_frame_bits(f.bytes, counts.want, places.want, i, record.want));
+    }
+    // header: "a NaN is some NaN"; after a refusal too the six floats are as they were "up to a NaN's bits"
+    void light_frame(const File &f, u64 i) {
+        frame.lend_junk(r, 1);
+        values.lend_junk(r, 6);
+        begin("vmd_light_frame", i);
+        const u32 got = vmd_light_frame(first.at(), first.n(), counts.at, places.at, i, frame.at,
+                                        reinterpret_cast<float *>(values.at));
+        answer(got, model::light_frame(f.bytes, counts.want, places.want, i, frame.want, values.want));
+        for (std::size_t k = 0; k < 6; k++)
+            if (is_nan(values.want[k]) && is_nan(values.at[k])) values.want[k] = values.at[k];
+        check_all(first, counts, places, frame, values);
+    }
+    void self_shadow_frame(const File &f, u64 i) {
+        record.lend_junk(r, 3);
+        begin("vmd_self_shadow_frame", i);
+        const u32 got = vmd_self_shadow_frame(first.at(), first.n(), counts.at, places.at, i, record.at);
+        check_fetch(got, model::self_shadow_frame(f.bytes, counts.want, places.want, i, record.want));
+    }
+    void property_frame(const File &f, u64 i) {
+        record.lend_junk(r, 3);
+        begin("vmd_property_frame", i);
+        const u32 got = vmd_property_frame(first.at(), first.n(), counts.at, places.at, scratch.at, scratch.n(), i, record.at);
+        check_fetch(got, model::property_frame(f.bytes, counts.want, scratch.want, i, record.want));
+        scratch.check();
+    }
+    int property_frame_at(const File &f, u64 place) {
+        record.lend_junk(r, 3);
+        next.lend_junk(r, 1);
+        begin("vmd_property_frame_at", place);
+        const u32 got = vmd_property_frame_at(first.at(), first.n(), place, record.at, next.at);
+        answer(got, model::property_frame_at(f.bytes, place, record.want, next.want));
+        check_all(first, record, next);
+        return static_cast<int>(got);
+    }
+    void ik_state(const File &f, u64 i, u64 j) {
+        enabled.lend_junk(r, 1);
+        begin("vmd_ik_state", i, j);
+        const u32 got = vmd_ik_state(first.at(), first.n(), counts.at, places.at, scratch.at, scratch.n(), i, j, enabled.at);
+        answer(got, model::ik_state(f.bytes, counts.want, scratch.want, i, j, enabled.want));
+        check_all(first, counts, places, scratch, enabled);
+    }
+
+    // ---- parts of the file
+
+    void check_part(const Longs &wanted) {
+        part.want = wanted;
+        check_all(first, counts, places, part);
+    }
+    void bone_name(const File &f, u64 i) {
+        part.lend_junk(r, 2);
+        begin("vmd_bone_name", i);
+        vmd_bone_name(first.at(), first.n(), counts.at, places.at, i, part.at);
+        check_part(model::bone_name(f.bytes, counts.want, places.want, i));
+    }
+    void morph_name(const File &f, u64 i) {
+        part.lend_junk(r, 2);
+        begin("vmd_morph_name", i);
+        vmd_morph_name(first.at(), first.n(), counts.at, places.at, i, part.at);
+        check_part(model::morph_name(f.bytes, counts.want, places.want, i));
+    }
+    void ik_name(const File &f, u64 i, u64 j) {
+        part.lend_junk(r, 2);
+        begin("vmd_ik_name", i, j);
+        vmd_ik_name(first.at(), first.n(), counts.at, places.at, scratch.at, scratch.n(), i, j, part.at);
+        check_part(model::ik_name(f.bytes, counts.want, scratch.want, i, j));
+        scratch.check();
+    }
+    void model_name(const File &f) {
+        first.lend(f);
+        part.lend_junk(r, 2);
+        begin("vmd_model_name");
+        vmd_model_name(first.at(), first.n(), part.at);
+        part.want = model::model_name(f.bytes);
+        check_all(first, part);
+    }
+    void bone_interpolation(const File &f, u64 i) {
+        part.lend_junk(r, 2);
+        begin("vmd_bone_interpolation", i);
+        vmd_bone_interpolation(first.at(), first.n(), counts.at, places.at, i, part.at);
+        check_part(model::bone_interpolation(f.bytes, counts.want, places.want, i));
+    }
+    void camera_interpolation(const File &f, u64 i) {
+        part.lend_junk(r, 2);
+        begin("vmd_camera_interpolation", i);
+        vmd_camera_interpolation(first.at(), first.n(), counts.at, places.at, i, part.at);
+        check_part(model::camera_interpolation(f.bytes, counts.want, places.want, i));
+    }
+
+    // ---- saving and joining; each gives the bytes that the library wrote, none where it refused
+
+    Bytes what_was_written(u32 got) const { return got ? Bytes() : out.now_there(written.at[0]); }
+
+    void export_size(const File &f) {
+        first.lend(f);
+        written.lend_junk(r, 1);
+        begin("vmd_export_size");
+        const u32 got = vmd_export_size(first.at(), first.n(), written.at);
+        answer(got, model::export_size(f, written.want));
+        check_all(first, written);
+    }
+    Bytes export_animation(const File &f, std::size_t out_len) {
+        first.lend(f);
+        out.lend_junk(r, out_len);
+        written.lend_junk(r, 1);
+        begin("vmd_export_animation");
+        const u32 got = vmd_export_animation(first.at(), first.n(), out.at, out.n(), written.at);
+        answer(got, model::export_animation(f, out.want, written.want));
+        check_all(first, out, written);
+        return what_was_written(got);
+    }
+    void export_older_size(const File &f) {
+        first.lend(f);
+        written.lend_junk(r, 1);
+        begin("vmd_export_older_size");
+        const u32 got = vmd_export_older_size(first.at(), first.n(), written.at);
+        answer(got, model::export_older_size(f, written.want));
+        check_all(first, written);
+    }
+    Bytes export_older_animation(const File &f, std::size_t out_len) {
+        first.lend(f);
+        out.lend_junk(r, out_len);
+        written.lend_junk(r, 1);
+        begin("vmd_export_older_animation");
+        const u32 got = vmd_export_older_animation(first.at(), first.n(), out.at, out.n(), written.at);
+        answer(got, model::export_older_animation(f, out.want, written.want));
+        check_all(first, out, written);
+        return what_was_written(got);
+    }
+    void join_size(const File &f, const File &g) {
+        first.lend(f);
+        second.lend(g);
+        written.lend_junk(r, 1);
+        begin("vmd_join_size");
+        const u32 got = vmd_join_size(first.at(), first.n(), second.at(), second.n(), written.at);
+        answer(got, model::join_size(f, g, written.want));
+        check_all(first, second, written);
+    }
+    Bytes join_animations(const File &f, const File &g, std::size_t out_len) {
+        first.lend(f);
+        second.lend(g);
+        out.lend_junk(r, out_len);
+        written.lend_junk(r, 1);
+        begin("vmd_join_animations");
+        const u32 got = vmd_join_animations(first.at(), first.n(), second.at(), second.n(), out.at, out.n(), written.at);
+        answer(got, model::join_animations(f, g, out.want, written.want));
+        check_all(first, second, out, written);
+        return what_was_written(got);
+    }
+    // header: "what it only reads may" overlap
+    void join_with_itself(const File &f, std::size_t out_len) {
+        first.lend(f);
+        out.lend_junk(r, out_len);
+        written.lend_junk(r, 1);
+        begin("vmd_join_animations");
+        const u32 got = vmd_join_animations(first.at(), first.n(), first.at(), first.n(), out.at, out.n(), written.at);
+        answer(got, model::join_animations(f, f, out.want, written.want));
+        check_all(first, out, written);
+    }
+    void joined_model(const File &f, const File &g) {
+        first.lend(f);
+        second.lend(g);
+        part3.lend_junk(r, 3);
+        begin("vmd_joined_model");
+        vmd_joined_model(first.at(), first.n(), second.at(), second.n(), part3.at);
+        part3.want = model::joined_model(f.bytes, g.bytes);
+        check_all(first, second, part3);
+    }
+
+    // ---- tidying
+
+    void lend_tidy(const File &f, std::size_t scratch_len) {
+        first.lend(f);
+        scratch.lend_junk(r, scratch_len);
+        written.lend_junk(r, 1);
+        kept.lend_junk(r, 6);
+        dropped.lend_junk(r, 6);
+    }
+    void tidy_size(const File &f, std::size_t scratch_len) {
+        lend_tidy(f, scratch_len);
+        begin("vmd_tidy_size");
+        const u32 got = vmd_tidy_size(first.at(), first.n(), scratch.at, scratch.n(), written.at, kept.at, dropped.at);
+        answer(got, model::tidy_size(f, scratch.want, written.want, kept.want, dropped.want));
+        check_all(first, scratch, written, kept, dropped);
+    }
+    Bytes tidy_animation(const File &f, std::size_t scratch_len, std::size_t out_len) {
+        lend_tidy(f, scratch_len);
+        out.lend_junk(r, out_len);
+        begin("vmd_tidy_animation");
+        const u32 got = vmd_tidy_animation(first.at(), first.n(), scratch.at, scratch.n(), out.at, out.n(), written.at,
+                                           kept.at, dropped.at);
+        answer(got, model::tidy_animation(f, scratch.want, out.want, written.want, kept.want, dropped.want));
+        check_all(first, scratch, out, written, kept, dropped);
+        return what_was_written(got);
+    }
+
+    // ---- the name test
+
+    void first_fault(const Bytes &n) {
+        name.lend(n);
+        begin("vmd_first_fault");
+        const u64 got = vmd_first_fault(name.at, name.n()), wanted = model::first_fault(n.data(), n.size());
+        if (got != wanted) disagree("expected " + std::to_string(wanted) + ", got " + std::to_string(got));
+        name.check();
+    }
+
+    // ---- building
+
+    void lend_parts(const Parts &p) {
+        p_model.lend(p.model);
+        each_part(p, [](auto &lent, const auto &part_) { lent.lend(part_); });
+    }
+    template <class P, class F> void each_part(P &p, F f) {
+        f(p_bone_bytes, p.bone_bytes);
+        f(p_bone_ends, p.bone_ends);
+        f(p_morph_bytes, p.morph_bytes);
+        f(p_morph_ends, p.morph_ends);
+        f(p_cameras, p.cameras);
+        f(p_lights, p.lights);
+        f(p_shadows, p.shadows);
+        f(p_properties, p.properties);
+        f(p_bone_indices, p.bone_indices);
+        f(p_bone_frames, p.bone_frames);
+        f(p_translations, p.translations);
+        f(p_rotations, p.rotations);
+        f(p_interpolations, p.interpolations);
+        f(p_morph_indices, p.morph_indices);
+        f(p_morph_frames, p.morph_frames);
+        f(p_weights, p.weights);
+    }
+    void check_parts() const {
+        check_all(p_model, p_bone_bytes, p_bone_ends, p_morph_bytes, p_morph_ends, p_cameras, p_lights, p_shadows,
+                  p_properties, p_bone_indices, p_bone_frames, p_translations, p_rotations, p_interpolations,
+                  p_morph_indices, p_morph_frames, p_weights);
+    }
+    static const float *floats(const Lent<u32> &lent) { return reinterpret_cast<const float *>(lent.at); }
+
+    void build_size(const Parts &p) {
+        lend_parts(p);
+        written.lend_junk(r, 1);
+        begin("vmd_build_size");
+        const u32 got = vmd_build_size(
+            p_model.at, p_model.n(), p_bone_bytes.at, p_bone_bytes.n(), p_bone_ends.at, p_bone_ends.n(), p_morph_bytes.at,
+            p_morph_bytes.n(), p_morph_ends.at, p_morph_ends.n(), p_cameras.at, p_cameras.n(), p_lights.at, p_lights.n(),
+            p_shadows.at, p_shadows.n(), p_properties.at, p_properties.n(), p_bone_indices.at, p_bone_indices.n(),
+            p_bone_frames.at, p_bone_frames.n(), floats(p_translations), p_translations.n(), floats(p_rotations),
+            p_rotations.n(), p_interpolations.at, p_interpolations.n(), p_morph_indices.at, p_morph_indices.n(),
+            p_morph_frames.at, p_morph_frames.n(), floats(p_weights), p_weights.n(), written.at);
+        answer(got, model::build_size(p, written.want));
+        check_parts();
+        written.check();
+    }
+    // The parts have just been lent by build_size.
+    Bytes build_animation(const Parts &p, std::size_t out_len) {
+        out.lend_junk(r, out_len);
+        written.lend_junk(r, 1);
+        begin("vmd_build_animation_from_parts");
+        const u32 got = vmd_build_animation_from_parts(
+            p_model.at, p_model.n(), p_bone_bytes.at, p_bone_bytes.n(), p_bone_ends.at, p_bone_ends.n(), p_morph_bytes.at,
+            p_morph_bytes.n(), p_morph_ends.at, p_morph_ends.n(), p_cameras.at, p_cameras.n(), p_lights.at, p_lights.n(),
+            p_shadows.at, p_shadows.n(), p_properties.at, p_properties.n(), p_bone_indices.at, p_bone_indices.n(),
+            p_bone_frames.at, p_bone_frames.n(), floats(p_translations), p_translations.n(), floats(p_rotations),
+            p_rotations.n(), p_interpolations.at, p_interpolations.n(), p_morph_indices.at, p_morph_indices.n(),
+            p_morph_frames.at, p_morph_frames.n(), floats(p_weights), p_weights.n(), out.at, out.n(), written.at);
+        answer(got, model::build_animation_from_parts(p, out.want, written.want));
+        check_parts();
+        check_all(out, written);
+        return what_was_written(got);
+    }
+
+    // ---- parts out of a take
+
+    void split_sizes(const File &f) {
+        first.lend(f);
+        sizes.lend_junk(r, 4);
+        begin("vmd_split_sizes");
+        const u32 got = vmd_split_sizes(first.at(), first.n(), sizes.at);
+        answer(got, model::split_sizes(f, sizes.want));
+        check_all(first, sizes);
+    }
+    // lengths has the wanted length of each buffer; what it holds does not count.
+    int split_animation(const File &f, const Parts &lengths) {
+        first.lend(f);
+        each_part(lengths, [this](auto &lent, const auto &part_) { lent.lend_junk(r, part_.size()); });
+        sizes.lend_junk(r, 4);
+        begin("vmd_split_animation_into_parts");
+        const u32 got = vmd_split_animation_into_parts(
+            first.at(), first.n(), p_bone_bytes.at, p_bone_bytes.n(), p_bone_ends.at, p_bone_ends.n(), p_morph_bytes.at,
+            p_morph_bytes.n(), p_morph_ends.at, p_morph_ends.n(), p_cameras.at, p_cameras.n(), p_lights.at, p_lights.n(),
+            p_shadows.at, p_shadows.n(), p_properties.at, p_properties.n(), p_bone_indices.at, p_bone_indices.n(),
+            p_bone_frames.at, p_bone_frames.n(), p_translations.at, p_translations.n(), p_rotations.at, p_rotations.n(),
+            p_interpolations.at, p_interpolations.n(), p_morph_indices.at, p_morph_indices.n(), p_morph_frames.at,
+            p_morph_frames.n(), p_weights.at, p_weights.n(), sizes.at);
+        Parts buffers;
+        each_part(buffers, [](auto &lent, auto &part_) { part_ = lent.want; });
+        answer(got, model::split_animation_into_parts(f, buffers, sizes.want));
+        each_part(buffers, [](auto &lent, auto &part_) { lent.want = part_; });
+        each_part(buffers, [](auto &lent, auto &) { lent.check(); });
+        check_all(first, sizes);
+        return static_cast<int>(got);
+    }
+    // The parts as they stand in the lent memory, cut to their lengths.
+    Parts parts_written(const Parts &lengths) {
+        Parts p;
+        pairwise(p, lengths, [](auto &part_, const auto &length) { part_.resize(length.size()); });
+        each_part(p, [](auto &lent, auto &part_) { part_ = lent.now_there(part_.size()); });
+        return p;
+    }
+
+    // ---- season figures; the arrays stay lent from one call to the next
+
+    void season_none() {
+        season_counts.lend_junk(r, 12);
+        figures.lend_junk(r, 11);
+        begin("vmd_season_none");
+        vmd_season_none(season_counts.at, figures.at);
+        model::season_none(season_counts.want, figures.want);
+        check_all(season_counts, figures);
+    }
+    void season_add(const File &f) {
+        first.lend(f);
+        begin("vmd_season_add");
+        vmd_season_add(first.at(), first.n(), season_counts.at, figures.at);
+        model::season_add(f, season_counts.want, figures.want);
+        check_all(first, season_counts, figures);
+    }
+    void season_mean() {
+        mean.lend_junk(r, 2);
+        begin("vmd_season_mean");
+        vmd_season_mean(figures.at, mean.at);
+        mean.want = model::season_mean(figures.want);
+        check_all(figures, mean);
+    }
+};
+
+#endif

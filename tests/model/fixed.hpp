@@ -1,0 +1,198 @@
+// Answers that stand in the papers themselves, without the model: the takes of document 01, every short name, and sections too
+// long to be made otherwise.
+#ifndef FIXED_HPP
+#define FIXED_HPP
+
+#include "calls.hpp"
+
+namespace fixed {
+
+[[noreturn]] inline void differs(const char *what, u64 wanted, u64 got) {
+    throw Disagreement(std::string(what) + ": expected " + std::to_string(wanted) + ", got " + std::to_string(got));
+}
+inline void equal(const char *what, u64 wanted, u64 got) {
+    if (wanted != got) differs(what, wanted, got);
+}
+
+// "Start" is the magic and a zero model name, 50 bytes; 0 and 1 are u32 counts.
+inline Bytes start(std::initializer_list<u32> counts) {
+    Bytes f(newer_magic.begin(), newer_magic.end());
+    f.resize(50, 0);
+    for (u32 count : counts) model::put(f, count);
+    return f;
+}
+
+inline u32 opened(const Bytes &f, Words &counts) {
+    Longs places(6), totals(3), scratch(4);
+    counts.assign(6, 0);
+    return vmd_parse_animation(f.data(), f.size(), scratch.data(), scratch.size(), counts.data(), places.data(), totals.data());
+}
+inline u32 opened(const Bytes &f) {
+    Words counts;
+    return opened(f, counts);
+}
+inline Bytes exported(const Bytes &f) {
+    Bytes out(4096);
+    u64 written = 0;
+    equal("export", 0, vmd_export_animation(f.data(), f.size(), out.data(), out.size(), &written));
+    out.resize(written);
+    return out;
+}
+
+// "P 29 bytes: 1. P 30 bytes of 0x41: 2. P start: 1. P start,0: accepted, export 74 bytes. P start,0 and one byte: 1."
+// "P start,0,1: 1. P start,0,0,1: accepted, no cameras. P start,0,0,0,0,0,1: 1."
+inline void openings() {
+    Words counts;
+    equal("29 bytes", 1, opened(Bytes(29, 0x41)));
+    equal("30 bytes of 0x41", 2, opened(Bytes(30, 0x41)));
+    equal("start", 1, opened(start({})));
+    equal("start,0", 0, opened(start({0})));
+    equal("start,0 exported", 74, exported(start({0})).size());
+    Bytes one_more = start({0});
+    one_more.push_back(0);
+    equal("start,0 and one byte", 1, opened(one_more));
+    equal("start,0,1", 1, opened(start({0, 1})));
+    equal("start,0,0,1", 0, opened(start({0, 0, 1}), counts));
+    equal("start,0,0,1 has no cameras", 0, counts[VMD_CAMERAS]);
+    equal("start,0,0,0,0,0,1", 1, opened(start({0, 0, 0, 0, 0, 1})));
+}
+
+// "P perspective bytes 0, 1, 2 are written 0, 1, 1. P name 0x41 0x00 0x42 is written 0x41 and zeros."
+inline void exports() {
+    for (u8 flag : {u8{0}, u8{1}, u8{2}}) {
+        Bytes f = start({0, 0, 1});
+        f.resize(f.size() + 61, 0);
+        f.back() = flag;
+        equal("perspective", flag == 0 ? 0 : 1, exported(f)[62 + 60]);
+    }
+    Bytes f = start({1});
+    const u8 name[3] = {0x41, 0x00, 0x42};
+    f.insert(f.end(), name, name + 3);
+    f.resize(54 + 111, 0);
+    const Bytes whole = exported(f);
+    equal("name", 0x41, whole[54]);
+    for (std::size_t i = 55; i < 69; i++) equal("name's zeros", 0, whole[i]);
+    // "Two one-bone takes (185 bytes each) join to 296."
+    Bytes out(400);
+    u64 written = 0;
+    equal("one bone", 185, whole.size());
+    equal("join", 0, vmd_join_animations(whole.data(), 185, whole.data(), 185, out.data(), out.size(), &written));
+    equal("joined", 296, written);
+}
+
+// "P name bytes 0x83 0x41 are good; 0x83 alone, 0x83 0x7F and 0xA0 are not."
+inline void names() {
+    const u8 good[2] = {0x83, 0x41}, bad[2] = {0x83, 0x7F}, single = 0xA0;
+    equal("0x83 0x41", 2, vmd_first_fault(good, 2));
+    equal("0x83", 0, vmd_first_fault(good, 1));
+    equal("0x83 0x7F", 0, vmd_first_fault(bad, 2));
+    equal("0xA0", 0, vmd_first_fault(&single, 1));
+}
+
+inline void takes_to_try() {
+    now.call = "takes to try";
+    openings();
+    exports();
+    names();
+}
+
+// ---- every name of up to three bytes
+
+inline u64 every_short_name() {
+    u64 tried = 0;
+    for (std::size_t n = 0; n <= 3; n++) {
+        for (u64 value = 0; value < u64{1} << (8 * n); value++, tried++) {
+            const u8 name[3] = {static_cast<u8>(value), static_cast<u8>(value >> 8), static_cast<u8>(value >> 16)};
+            equal("every short name", model::first_fault(name, n), vmd_first_fault(name, n));
+        }
+    }
+    return tried;
+}
+
+// ---- sections of more than 2^31 records, all zero; the pages that are only read take no memory
+
+class Zeros {
+  public:
+    explicit Zeros(u64 n) : length(n) {
+        void *map = mmap(nullptr, n + page, PROT_READ | PROT_WRITE, MAP_PRIVATE | MAP_ANONYMOUS | MAP_NORESERVE, -1, 0);
+        if (map == MAP_FAILED) throw std::runtime_error("no room for a long section");
+        bytes = static_cast<u8 *>(map);
+    }
+    ~Zeros() { munmap(bytes, length + page); }
+    Zeros(const Zeros &) = delete;
+    Zeros &operator=(const Zeros &) = delete;
+    u8 *bytes;
+    u64 length;
+};
+
+// A file of that many self-shadows and nothing else.
+struct LongFile : Zeros {
+    explicit LongFile(u32 shadows_) : Zeros(70 + 9 * u64{shadows_}) {
+        const Bytes header = start({0, 0, 0, 0, shadows_});
+        std::copy(header.begin(), header.end(), bytes);
+    }
+};
+
+constexpr u32 half = 0x80000000;
+
+// "Joining: first file, second file, 11, 13."; "74 + .. 9s"
+inline void huge_join() {
+    const LongFile f(half), g(half - 1);
+    u64 size = 7, written = 7;
+    u8 out[100] = {};
+    equal("join size of 2^32", 11, vmd_join_size(f.bytes, f.length, f.bytes, f.length, &size));
+    equal("join of 2^32", 11, vmd_join_animations(f.bytes, f.length, f.bytes, f.length, out, 100, &written));
+    equal("size as it was", 7, size);
+    equal("join size of 2^32 - 1", 0, vmd_join_size(f.bytes, f.length, g.bytes, g.length, &size));
+    equal("its size", 74 + 9 * u64{0xFFFFFFFF}, size);
+    equal("join of 2^32 - 1", 13, vmd_join_animations(f.bytes, f.length, g.bytes, g.length, out, 100, &written));
+    equal("written as it was", 7, written);
+}
+
+// Opening, fetches at the end, season, tidying and parts of a long file.
+inline void huge_file() {
+    const LongFile f(half);
+    Words counts(6), record(3), season_counts(12), kept(6), dropped(6);
+    Longs places(6), totals(3), figures(11);
+    u64 size = 7;
+    equal("opening", 0,
+          vmd_parse_animation(f.bytes, f.length, nullptr, 0, counts.data(), places.data(), totals.data()));
+    equal("count", half, counts[VMD_SELF_SHADOWS]);
+    equal("place", 70, places[VMD_SELF_SHADOWS]);
+    equal("missing place", f.length, places[VMD_PROPERTIES]);
+    equal("last record", 0,
+          vmd_self_shadow_frame(f.bytes, f.length, counts.data(), places.data(), half - u64{1}, record.data()));
+    equal("after it", 4, vmd_self_shadow_frame(f.bytes, f.length, counts.data(), places.data(), half, record.data()));
+    equal("export size", 0, vmd_export_size(f.bytes, f.length, &size));
+    equal("its size", 74 + 9 * u64{half}, size);
+    vmd_season_none(season_counts.data(), figures.data());
+    vmd_season_add(f.bytes, f.length, season_counts.data(), figures.data());
+    vmd_season_add(f.bytes, f.length, season_counts.data(), figures.data());
+    equal("season total", 2 * u64{half}, figures[VMD_SEASON_TOTAL + VMD_SELF_SHADOWS]);
+    equal("season largest", half, season_counts[VMD_SEASON_LARGEST + VMD_SELF_SHADOWS]);
+    u64 scratch[4] = {1, 2, 3, 4};
+    equal("tidy", 3, vmd_tidy_size(f.bytes, f.length, scratch, 4, &size, kept.data(), dropped.data()));
+}
+
+// "10; 11; .. 13" of building, with self-shadows or properties of which one more would pass 32 bits
+inline u32 build_long(const Zeros &shadows_, u64 s, const Zeros &properties_, u64 p, u64 columns, u64 *size) {
+    const u32 none[4] = {};
+    return vmd_build_size(nullptr, 0, nullptr, 0, nullptr, 0, nullptr, 0, nullptr, 0, nullptr, 0, nullptr, 0, shadows_.bytes,
+                          9 * s, properties_.bytes, 9 * p, none, columns, nullptr, 0, nullptr, 0, nullptr, 0, nullptr, 0,
+                          nullptr, 0, nullptr, 0, nullptr, 0, size);
+}
+inline void huge_build() {
+    const u64 most = 0xFFFFFFFF;
+    const Zeros records(9 * (most + 1));
+    u64 size = 7;
+    equal("2^32 self-shadows", 11, build_long(records, most + 1, records, 0, 0, &size));
+    equal("2^32 properties", 11, build_long(records, 0, records, most + 1, 0, &size));
+    equal("2^32 and columns", 10, build_long(records, most + 1, records, 0, 1, &size));
+    equal("size as it was", 7, size);
+    equal("2^32 - 1 self-shadows", 0, build_long(records, most, records, 1, 0, &size));
+    equal("its size", 74 + 9 * (most + 1), size);
+}
+
+} // namespace fixed
+
+#endif

@@ -1,0 +1,770 @@
+// Runs the model against the library, over made-up takes.
+//
+//   model COUNT SEED [FIRST]   COUNT cases of the seed, from number FIRST on (0 where it is left out)
+//   model take SEED NUMBER     the bytes of a case's take, on standard output
+//   model self-test            switches on each alteration of the model; all have to be found
+//   model altered WHICH COUNT SEED [FIRST]   a run with one of them, to see its reports
+//   model names                the name test on every name of up to three bytes
+//   model huge                 sections so long that counts added up pass 32 bits, in pages of zeros that take no memory
+//
+// Case n is made from the seed and n alone: its take is take n, its neighbours are takes n - 1 and n - 2.
+#include "fixed.hpp"
+
+// ---- one case
+
+struct Case {
+    Calls &c;
+    Rng &r;
+    const File &a, &b, &d; // take n, n - 1 and n - 2
+    bool big;
+
+    static void law(bool holds, const char *which) {
+        if (!holds) disagree(std::string("law: ") + which);
+    }
+
+    // Exact, one short, none, or longer.
+    std::size_t some_length(std::size_t exact) {
+        switch (r.below(6)) {
+        case 0: return exact ? exact - 1 : 0;
+        case 1: return r.one_in(2) ? 0 : r.below(exact + 1);
+        case 2: return exact + 1 + r.below(40);
+        default: return exact;
+        }
+    }
+
+    // Every call is made for every take; what goes beyond one or two of each, and the laws that need many, for some of them.
+    void run() {
+        opening();
+        fetch_own();
+        for (int n = 0; n < 2; n++) fetch_foreign();
+        saving();
+        joining();
+        tidying();
+        splitting();
+        building();
+        names();
+        season_limits();
+        if (sometimes(4)) season_list();
+        if (!big && r.one_in(256)) every_cut();
+        if (read_header(a.bytes).width == 10 && sometimes(2)) widened();
+        if (a.refusal()) return;
+        if (sometimes(3)) equality();
+        if (sometimes(4) && !b.refusal()) unit(), join_reads_back();
+        if (sometimes(4) && !b.refusal() && !d.refusal()) associativity();
+        if (sometimes(4)) tidy_twice();
+    }
+    bool sometimes(u64 n) { return big || r.one_in(n); }
+
+    // ---- opening and fetches
+
+    void opening() {
+        const u64 needed = (a.opening.property_places.size() + 15) / 16;
+        c.parse(a, some_length(needed));
+        if (needed > 0 && !a.refusal() && r.one_in(2)) c.parse(a, needed - 1);
+        if (r.one_in(4)) c.parse(a, a.opening.property_places.size());
+        // header: "A scratch of (file_len / 9 + 15) / 16 places is enough for any file."
+        if (r.one_in(4)) {
+            c.parse(a, (a.bytes.size() / 9 + 15) / 16);
+            law(now.answer != VMD_SCRATCH_TOO_SHORT, "scratch enough for any file of its length");
+        }
+    }
+
+    // Numbers to ask for: all, where they are few, and some at or above the count.
+    Longs numbers_to_ask(u64 count) {
+        static const Longs far = {0xFFFFFFFF, 0x100000000, 0xFFFFFFFFFFFFFFFF, 0x8000000000000000, 0x0249249249249249};
+        Longs all;
+        if (count <= 4) {
+            for (u64 i = 0; i < count; i++) all.push_back(i);
+        } else {
+            all = {0, count - 1, r.below(count), r.below(count)};
+        }
+        all.push_back(r.one_in(3) ? r.pick(far) : count + r.below(3));
+        return all;
+    }
+
+    // "With the file's own opening and scratch, the calls for records, names and interpolation bytes return just these, and the
+    // file's model name."
+    void fetch_own() {
+        c.model_name(a);
+        const Name own_model = part_there();
+        if (a.refusal()) return;
+        const OpenSlots o = c.parse(a, (a.opening.property_places.size() + 15) / 16 + r.below(2));
+        const Take &t = a.take();
+        law(own_model == a.take().model, "the file's model name");
+        c.lend_opening(a, o);
+        for (u64 i : numbers_to_ask(t.bones.size())) own_bone(t, i);
+        for (u64 i : numbers_to_ask(t.morphs.size())) own_morph(t, i);
+        for (u64 i : numbers_to_ask(t.cameras.size())) own_camera(t, i);
+        for (u64 i : numbers_to_ask(t.lights.size())) own_light(t, i);
+        for (u64 i : numbers_to_ask(t.shadows.size())) own_shadow(t, i);
+        for (u64 i : numbers_to_ask(t.properties.size())) own_property(t, i);
+        if (r.one_in(8))
+            for (u64 i = 0; i < t.properties.size() && i < 80; i++) own_property(t, i);
+        walk_properties(o, t);
+    }
+    Name part_of(const Longs &part) const {
+        return Name(reinterpret_cast<const char *>(c.first.at()) + part[0], part[1]);
+    }
+    Name part_there() const { return part_of({c.part.at[0], c.part.at[1]}); }
+    template <std::size_t N> static Name as_name(const std::array<u8, N> &list) { return Name(list.begin(), list.end()); }
+    Words record_there() const { return c.record.now_there(c.record.n()); }
+
+    void own_bone(const Take &t, u64 i) {
+        c.bone_frame(a, i);
+        if (i < t.bones.size()) law(record_there() == fields(t.bones[i]), "own bone");
+        c.bone_name(a, i);
+        if (i < t.bones.size()) law(part_there() == t.bones[i].name, "own bone name");
+        c.bone_interpolation(a, i);
+        if (i < t.bones.size()) law(part_there() == as_name(t.bones[i].interpolation), "own bone interpolation");
+    }
+    void own_morph(const Take &t, u64 i) {
+        c.morph_frame(a, i);
+        if (i < t.morphs.size()) law(record_there() == fields(t.morphs[i]), "own morph");
+        c.morph_name(a, i);
+        if (i < t.morphs.size()) law(part_there() == t.morphs[i].name, "own morph name");
+    }
+    void own_camera(const Take &t, u64 i) {
+        c.camera_frame(a, i);
+        if (i < t.cameras.size()) law(record_there() == fields(t.cameras[i]), "own camera");
+        c.camera_interpolation(a, i);
+        if (i < t.cameras.size()) law(part_there() == as_name(t.cameras[i].interpolation), "own camera interpolation");
+    }
+    void own_light(const Take &t, u64 i) {
+        c.light_frame(a, i);
+        c.light_frame_bits(a, i);
+        if (i < t.lights.size()) law(record_there() == fields(t.lights[i]), "own light");
+    }
+    void own_shadow(const Take &t, u64 i) {
+        c.self_shadow_frame(a, i);
+        if (i < t.shadows.size()) law(record_there() == fields(t.shadows[i]), "own self-shadow");
+    }
+    void own_property(const Take &t, u64 i) {
+        c.property_frame(a, i);
+        if (i >= t.properties.size()) return;
+        const Property &p = t.properties[i];
+        law(record_there() == Words{p.frame, p.visible, static_cast<u32>(p.iks.size())}, "own property");
+        for (u64 j : numbers_to_ask(p.iks.size())) {
+            c.ik_state(a, i, j);
+            if (j < p.iks.size()) law(c.enabled.at[0] == p.iks[j].enabled, "own IK state");
+            c.ik_name(a, i, j);
+            if (j < p.iks.size()) law(part_there() == p.iks[j].name, "own IK name");
+        }
+    }
+    // header: "from places[VMD_PROPERTIES] on this reads the counts[VMD_PROPERTIES] frames of a file one after another"
+    void walk_properties(const OpenSlots &o, const Take &t) {
+        u64 at = o.places[properties];
+        for (u64 i = 0; i < t.properties.size() && i < 80; i++) {
+            law(at == a.opening.property_places[i], "property_frame_at walks from frame to frame");
+            law(c.property_frame_at(a, at) == 0, "property_frame_at takes every frame of its file");
+            const Property &p = t.properties[i];
+            law(record_there() == Words{p.frame, p.visible, static_cast<u32>(p.iks.size())}, "property_frame_at reads it");
+            at = c.next.at[0];
+        }
+    }
+
+    u64 some_place(u64 i, u64 size) {
+        const u64 n = a.bytes.size();
+        switch (r.below(7)) {
+        case 0: return r.below(n + 30);
+        case 1: return n - std::min(n, i * size + size) + r.below(3) - 1;
+        case 2: return n - std::min(n, size) + r.below(3) - 1;
+        case 3: return 0 - i * size + r.below(n + 1);      // its sum wraps into the file
+        case 4: return r.one_in(2) ? 0 - r.below(130) : r.next();
+        case 5: return a.opening.property_places.empty() ? 0 : r.pick(a.opening.property_places);
+        default: return r.below(60);
+        }
+    }
+
+    // An opening that is made up, or another file's.
+    OpenSlots foreign_opening(u64 i) {
+        OpenSlots o{Words(6), Longs(6), Longs(3), Longs(r.one_in(3) ? r.below(6) : 1 + i % 200 / 16)};
+        if (r.one_in(3)) o = c.parse(b, (b.opening.property_places.size() + 15) / 16);
+        else if (r.one_in(3) && !a.refusal()) o = c.parse(a, (a.opening.property_places.size() + 15) / 16);
+        else o.counts.assign(6, r.one_in(2) ? 0xFFFFFFFF : static_cast<u32>(r.below(80)));
+        if (r.one_in(3)) return o;
+        for (int s = 0; s < 6; s++)
+            if (r.one_in(2)) o.places[s] = some_place(i, record_size[s]);
+        for (u64 &place : o.scratch)
+            if (r.one_in(2)) place = some_place(0, 9);
+        if (r.one_in(4)) o.counts[r.below(6)] += static_cast<u32>(r.below(3)) - 1;
+        return o;
+    }
+
+    // "A fetch with an opening or scratch taken from another file gives the record that the layout reads at the place these
+    // name, or refusal 4"
+    void fetch_foreign() {
+        const u64 i = r.one_in(3) ? 0 : r.one_in(3) ? r.below(70) : r.one_in(3) ? r.next() >> r.below(64) : r.below(20);
+        const u64 j = r.one_in(3) ? 0 : r.one_in(4) ? r.next() >> r.below(64) : r.below(6);
+        const OpenSlots o = foreign_opening(i);
+        c.lend_opening(a, o);
+        c.bone_frame(a, i);
+        c.bone_name(a, i);
+        c.bone_interpolation(a, i);
+        c.morph_frame(a, i);
+        c.morph_name(a, i);
+        c.camera_frame(a, i);
+        c.camera_interpolation(a, i);
+        c.light_frame(a, i);
+        c.light_frame_bits(a, i);
+        c.self_shadow_frame(a, i);
+        c.property_frame(a, i);
+        c.property_frame(a, i % 40);
+        c.ik_state(a, i % 40, j);
+        c.ik_name(a, i % 40, j);
+        c.ik_state(a, i, j);
+        c.ik_name(a, i, j);
+        c.property_frame_at(a, some_place(i % 70, 9));
+    }
+
+    // ---- saving
+
+    void saving() {
+        c.export_size(a);
+        c.export_older_size(a);
+        const u64 exact = a.refusal() ? r.below(200) : canonical_size(a.take());
+        c.export_animation(a, some_length(exact));
+        c.export_older_animation(a, some_length(exact - std::min<u64>(exact, 10)));
+        if (a.refusal()) return;
+        const Bytes whole = c.export_animation(a, exact);
+        law(whole.size() == exact, "an output of the export's length is long enough");
+        if (sometimes(3)) reads_back(whole);
+        if (sometimes(3)) older_reads_back(whole);
+    }
+
+    // "the export of each is accepted and reads back as its records and its model name"
+    void reads_back(const Bytes &whole) {
+        const File again(whole);
+        const OpenSlots o = c.parse(again, (a.opening.property_places.size() + 15) / 16);
+        law(!again.refusal() && again.take() == a.take(), "an export reads back");
+        law(o.totals == Longs({a.opening.iks, a.opening.smallest, a.opening.largest}), "its totals");
+        law(c.export_animation(again, whole.size()) == whole, "the export of an export is the export");
+    }
+
+    // e) "writes the older edition, 10 bytes shorter than the export .. then the export's bytes from its bone count on"
+    void older_reads_back(const Bytes &whole) {
+        const Bytes older = c.export_older_animation(a, whole.size() - 10);
+        if (older.empty()) {
+            law(a.take().model.size() > 10 && read_header(a.bytes).width == 20, "15 is for newer files alone");
+            return;
+        }
+        law(std::equal(older.begin() + 40, older.end(), whole.begin() + 50, whole.end()), "the export's bytes");
+        const File again(older);
+        c.parse(again, (a.opening.property_places.size() + 15) / 16);
+        law(!again.refusal() && again.take() == a.take(), "the older edition reads back");
+        law(c.export_animation(again, whole.size()) == whole, "the export of the older edition is the export");
+    }
+
+    // e) "What an older file must read as is the Rust's reading after its header is widened to 50 bytes: the newer magic, and
+    // the 10 name bytes with 10 zeros after them."
+    void widened() {
+        Bytes wide_header(newer_magic.begin(), newer_magic.end());
+        wide_header.insert(wide_header.end(), a.bytes.begin() + 30, a.bytes.begin() + 40);
+        wide_header.insert(wide_header.end(), 10, u8{0});
+        wide_header.insert(wide_header.end(), a.bytes.begin() + 40, a.bytes.end());
+        const File newer(wide_header);
+        law(newer.refusal() == a.refusal(), "an older file is refused as the widened one");
+        const u64 needed = (a.opening.property_places.size() + 15) / 16, exact = a.refusal() ? 0 : canonical_size(a.take());
+        OpenSlots of_a = c.parse(a, needed), of_newer = c.parse(newer, needed);
+        law(c.export_animation(a, exact) == c.export_animation(newer, exact), "an older file reads as the widened one");
+        if (a.refusal()) return;
+        for (u64 &place : of_a.places) place += 10;
+        for (u64 &place : of_a.scratch) place += 10;
+        law(of_a.places == of_newer.places && of_a.scratch == of_newer.scratch, "places are those of the file as it is");
+        law(of_a.counts == of_newer.counts && of_a.totals == of_newer.totals, "an older file counts as the widened one");
+    }
+
+    // Files of every length: each beginning of the take.
+    void every_cut() {
+        for (std::size_t n = 0; n < a.bytes.size() && n < 1500; n++) {
+            const File cut(Bytes(a.bytes.begin(), a.bytes.begin() + static_cast<std::ptrdiff_t>(n)));
+            c.parse(cut, (cut.opening.property_places.size() + 15) / 16);
+            c.model_name(cut);
+            c.export_animation(cut, cut.refusal() ? 80 : canonical_size(cut.take()));
+        }
+    }
+
+    // ---- joining
+
+    void joining() {
+        c.joined_model(a, b);
+        c.join_size(a, b);
+        const bool fits = !a.refusal() && !b.refusal();
+        const u64 exact = fits ? canonical_size(join(a.take(), b.take())) : r.below(200);
+        c.join_animations(a, b, some_length(exact));
+        if (r.one_in(4)) c.join_animations(b, a, some_length(exact)), c.join_size(b, a), c.joined_model(b, a);
+        if (r.one_in(16)) c.join_with_itself(a, a.refusal() ? 0 : canonical_size(join(a.take(), a.take())));
+    }
+
+    void join_reads_back() {
+        const File joined(c.join_animations(a, b, canonical_size(join(a.take(), b.take()))));
+        const OpenSlots o = c.parse(joined, (joined.opening.property_places.size() + 15) / 16);
+        law(!joined.refusal() && joined.take() == join(a.take(), b.take()), "a join reads back");
+        law(o.totals[VMD_TOTAL_SMALLEST_FRAME] == joined_smallest(a.opening, b.opening), "the smallest frame of a join");
+        law(o.totals[VMD_TOTAL_LARGEST_FRAME] == std::max(a.opening.largest, b.opening.largest), "the largest of a join");
+        tidy_of_join(joined);
+    }
+
+    // "joining any of them, on either side, with an accepted take of no records and no model name gives the other's export"
+    void unit() {
+        const File empty(dress(r, Take()));
+        c.parse(empty, 0);
+        law(!empty.refusal(), "the empty take is accepted");
+        const u64 exact = canonical_size(a.take());
+        const Bytes whole = c.export_animation(a, exact);
+        law(c.join_animations(a, empty, exact) == whole, "the empty take on the right");
+        law(c.join_animations(empty, a, exact) == whole, "the empty take on the left");
+    }
+
+    // "joining the first two and then the third gives the same bytes as joining the first with the join of the other two"
+    void associativity() {
+        const u64 exact = canonical_size(a.take()) + canonical_size(b.take()) + canonical_size(d.take()) - 2 * 74;
+        const File left(c.join_animations(a, b, exact)), right(c.join_animations(b, d, exact));
+        law(c.join_animations(left, d, exact) == c.join_animations(a, right, exact), "joining is associative");
+    }
+
+    // "two have equal exports exactly when their records and model names are equal"
+    void equality() {
+        const u64 exact = canonical_size(a.take());
+        const Bytes whole = c.export_animation(a, exact);
+        const File twin(dress(r, a.take()));
+        c.parse(twin, (a.opening.property_places.size() + 15) / 16);
+        law(!twin.refusal(), "a take in other bytes is accepted");
+        law(c.export_animation(twin, exact) == whole, "equal records have equal exports");
+        same_season(twin);
+        Bytes other = a.bytes;
+        other[r.below(other.size())] ^= static_cast<u8>(1 << r.below(8));
+        const File near(other);
+        const Bytes of_near = c.export_animation(near, near.refusal() ? 0 : canonical_size(near.take()));
+        if (!near.refusal()) law((of_near == whole) == (near.take() == a.take()), "equal exports are of equal records");
+        if (b.refusal()) return;
+        const Bytes of_b = c.export_animation(b, canonical_size(b.take()));
+        law((of_b == whole) == (b.take() == a.take()), "equal exports are of equal records");
+    }
+
+    // ---- tidying
+
+    u64 largest_section(const File &f) const {
+        const auto counts = f.opening.counts;
+        return *std::max_element(counts.begin(), counts.end());
+    }
+    Bytes tidied(const File &f) { return c.tidy_animation(f, largest_section(f), canonical_size(f.take())); }
+
+    void tidying() {
+        const u64 places = a.refusal() ? r.below(9) : largest_section(a);
+        const u64 exact = a.refusal() ? r.below(200) : canonical_size(model::tidied(a));
+        c.tidy_size(a, some_length(places));
+        // with a short output the library counts without scratch, which takes seconds where a take is long
+        c.tidy_animation(a, some_length(places), big ? exact : some_length(exact));
+        if (r.one_in(4)) c.tidy_animation(a, places + r.below(2), exact);
+        // header: "A scratch of file_len / 9 places is enough for any file."
+        if (r.one_in(8)) {
+            c.tidy_size(a, a.bytes.size() / 9);
+            law(now.answer != VMD_SCRATCH_TOO_SHORT, "scratch enough for any file of its length");
+        }
+    }
+    void tidy_twice() {
+        const File once(tidied(a));
+        if (!big) law(once.bytes == canonical(tidy_by_definition(a.take())), "dropped is what a later record replaces");
+        law(tidied(once) == once.bytes, "tidying twice is tidying once");
+        law(once.bytes.size() <= canonical_size(a.take()), "a tidied file is never longer than the export");
+    }
+
+    // g) "Dropped records are those with a later record of the same track and frame.", said of each record, and the order said
+    // as one of pairs: the track's first appearance, then the frame.
+    template <class Record, class Track> static std::vector<Record> not_dropped(const std::vector<Record> &all, Track track) {
+        std::vector<std::tuple<u64, u32, u64>> kept;
+        for (u64 i = 0; i < all.size(); i++) {
+            bool later = false;
+            u64 appears = i;
+            for (u64 j = i + 1; j < all.size(); j++) later = later || (track(all[i], all[j]) && all[i].frame == all[j].frame);
+            for (u64 j = i; j-- > 0;) appears = track(all[i], all[j]) ? j : appears;
+            if (!later) kept.emplace_back(appears, all[i].frame, i);
+        }
+        std::sort(kept.begin(), kept.end());
+        std::vector<Record> records;
+        for (const auto &entry : kept) records.push_back(all[std::get<2>(entry)]);
+        return records;
+    }
+    static Take tidy_by_definition(const Take &t) {
+        const auto same_name = [](const auto &x, const auto &y) { return x.name == y.name; };
+        const auto always = [](const auto &, const auto &) { return true; };
+        return {t.model, not_dropped(t.bones, same_name), not_dropped(t.morphs, same_name), not_dropped(t.cameras, always),
+                not_dropped(t.lights, always), not_dropped(t.shadows, always), not_dropped(t.properties, always)};
+    }
+
+    // g) "tidying a join, where its counts fit 32 bits, equals tidying the join of the two tidied takes"
+    void tidy_of_join(const File &joined) {
+        const File left(tidied(a)), right(tidied(b));
+        const u64 exact = canonical_size(joined.take());
+        const File of_tidied(c.join_animations(left, right, exact));
+        law(tidied(joined) == tidied(of_tidied), "tidying a join");
+    }
+
+    // ---- parts
+
+    // One or two buffers too short, or all long enough.
+    Parts buffer_lengths(const Parts &needed, bool enough) {
+        Parts lengths = needed;
+        pairwise(lengths, needed, [&](auto &length, const auto &) {
+            if (r.one_in(4)) length.resize(length.size() + 1 + r.below(30));
+        });
+        // header: "With such tables no names are counted first."
+        const u64 b_ = a.take().bones.size(), m_ = a.take().morphs.size();
+        if (r.one_in(2)) lengths.bone_bytes.resize(15 * b_ + r.below(2)), lengths.bone_ends.resize(b_ + r.below(2));
+        if (r.one_in(2)) lengths.morph_bytes.resize(15 * m_ + r.below(2)), lengths.morph_ends.resize(m_ + r.below(2));
+        if (enough) return lengths;
+        const u64 one = r.below(16), other = r.one_in(3) ? r.below(16) : one;
+        u64 n = 0;
+        pairwise(lengths, needed, [&](auto &length, const auto &) {
+            if (n == one || n == other) length.resize(some_length(length.size()));
+            n++;
+        });
+        return lengths;
+    }
+
+    void splitting() {
+        c.split_sizes(a);
+        const Parts needed = a.refusal() ? Parts() : parts(a);
+        if (a.refusal() || r.one_in(2)) c.split_animation(a, buffer_lengths(needed, false));
+        if (a.refusal()) return;
+        const Parts lengths = buffer_lengths(needed, true);
+        law(c.split_animation(a, lengths) == 0, "buffers long enough");
+        Parts got = c.parts_written(needed);
+        got.model.assign(a.take().model.begin(), a.take().model.end());
+        parts_build(got);
+    }
+
+    // a) "Building from these parts gives the file's export, provided every name, float and self-shadow mode passes the
+    // builder."
+    void parts_build(const Parts &got) {
+        Take t;
+        const bool passes = build(got, t) == 0;
+        const u64 exact = canonical_size(a.take());
+        c.build_size(got);
+        const Bytes built = c.build_animation(got, exact);
+        if (passes) law(built == c.export_animation(a, exact), "the parts build the export");
+        else law(built.empty(), "parts that do not pass are turned down");
+    }
+
+    void building() {
+        const Parts p = some_parts(r);
+        Take t;
+        const u64 exact = build(p, t) ? 600 : canonical_size(t);
+        c.build_size(p);
+        c.build_animation(p, some_length(exact));
+    }
+
+    void names() {
+        for (int n = 0; n < 3; n++) {
+            Bytes any(r.below(r.one_in(8) ? 60 : 12));
+            static const Bytes edges = {0x00, 0x3F, 0x40, 0x7E, 0x7F, 0x80, 0x81, 0x9F, 0xA0, 0xA1, 0xDF,
+                                        0xE0, 0xFC, 0xFD, 0xFE, 0xFF, 0x41, 0x42};
+            for (u8 &byte : any) byte = r.one_in(2) ? r.pick(edges) : r.byte();
+            c.first_fault(any);
+            const Name good = good_name(r, 15);
+            c.first_fault(Bytes(good.begin(), good.end()));
+        }
+        c.first_fault(Bytes(a.take().model.begin(), a.take().model.end()));
+    }
+
+    // ---- season figures
+
+    void season_list() {
+        c.season_none();
+        c.season_mean();
+        for (const File *f : {&a, &b, &d}) c.season_add(*f);
+        c.season_mean();
+        season_definition();
+        season_limits();
+    }
+
+    // b) said of the whole list, not of one take after another
+    void season_definition() {
+        Longs figures(11, 0);
+        Words counts(12, 0);
+        for (int s = 0; s < 6; s++) {
+            Words of_section;
+            for (const File *f : {&a, &b, &d})
+                if (!f->refusal()) of_section.push_back(f->opening.counts[s]);
+            for (u32 count : of_section) figures[VMD_SEASON_TOTAL + s] += count, figures[VMD_SEASON_RECORDS] += count;
+            if (of_section.empty()) continue;
+            counts[VMD_SEASON_SMALLEST + s] = *std::min_element(of_section.begin(), of_section.end());
+            counts[VMD_SEASON_LARGEST + s] = *std::max_element(of_section.begin(), of_section.end());
+        }
+        for (const File *f : {&a, &b, &d}) {
+            figures[f->refusal() ? VMD_SEASON_REFUSED : VMD_SEASON_ACCEPTED]++;
+            if (f->refusal()) continue;
+            figures[VMD_SEASON_BONE_NAMES] += parts(*f).bone_ends.size();
+            figures[VMD_SEASON_MORPH_NAMES] += parts(*f).morph_ends.size();
+        }
+        law(c.figures.now_there(11) == figures && c.season_counts.now_there(12) == counts, "the season's definition");
+        const u64 n = figures[VMD_SEASON_ACCEPTED], total = figures[VMD_SEASON_RECORDS];
+        law(c.mean.now_there(2) == (n ? Longs{total / n, total % n} : Longs{0, 0}), "the mean");
+    }
+
+    // header: "Any numbers may stand in the arrays."
+    void season_limits() {
+        Longs figures(11);
+        Words counts(12);
+        for (u32 &count : counts) count = r.one_in(2) ? r.word() : static_cast<u32>(r.below(4));
+        for (u64 &figure : figures) figure = r.one_in(3) ? 0xFFFFFFFFFFFFFFFF - r.below(8) : r.below(1000);
+        if (r.one_in(3)) figures[VMD_SEASON_ACCEPTED] = 0;
+        if (r.one_in(2)) {
+            for (u64 &figure : figures) figure = r.below(10);
+            figures[r.below(11)] = 0xFFFFFFFFFFFFFFFF - r.below(12);
+        }
+        c.season_counts.lend(counts);
+        c.figures.lend(figures);
+        c.season_mean();
+        c.season_add(a);
+        c.season_mean();
+    }
+
+    // b) "Takes that differ only in interpolation bytes or in bytes after a name's first zero byte give equal figures."
+    void same_season(const File &twin) {
+        Take t = twin.take();
+        for (Bone &bone : t.bones) bone.interpolation = some_bytes<64>(r);
+        for (Camera &camera : t.cameras) camera.interpolation = some_bytes<24>(r);
+        const File other(dress(r, t));
+        c.season_none();
+        c.season_add(a);
+        const Longs figures = c.figures.now_there(11);
+        const Words counts = c.season_counts.now_there(12);
+        c.season_none();
+        c.season_add(other);
+        law(c.figures.now_there(11) == figures && c.season_counts.now_there(12) == counts, "equal season figures");
+    }
+};
+
+// ---- runs
+
+struct Neighbours {
+    std::vector<File> files; // takes n - 2, n - 1 and n
+    void move_to(u64 seed, u64 n) {
+        if (files.size() != 3) {
+            files.clear();
+            for (u64 back = 3; back > 0; back--) files.emplace_back(neighbour(seed, n - back + 1, n));
+        } else {
+            files.erase(files.begin());
+            files.emplace_back(take_of(seed, n));
+        }
+        // a big take is a case of its own: its neighbours are small ones again
+        if (is_big(n - 1) || is_big(n - 2))
+            for (u64 back = 2; back > 0; back--)
+                if (is_big(n - back)) files[2 - back] = File(neighbour(seed, n - back, n));
+    }
+    static Bytes neighbour(u64 seed, u64 of, u64 n) {
+        return of != n && is_big(of) ? take_of(seed, of + 7) : take_of(seed, of);
+    }
+};
+
+static std::string hex(const Bytes &f) {
+    std::string text;
+    char two[4];
+    for (u8 b : f) std::snprintf(two, sizeof two, "%02x", b), text += two;
+    return text;
+}
+
+static unsigned long long wide_number(u64 n) { return n; } // what printf's %llu takes
+
+template <class List> void print_list(const char *label, const List &list) {
+    std::printf("  %s (%zu):", label, list.size());
+    for (std::size_t i = 0; i < list.size() && i < 400; i++) std::printf(" %llx", wide_number(list[i]));
+    std::printf("\n");
+}
+
+// What the call was lent besides files, as the model has it after the call, in hexadecimal.
+static void report_lent(Calls &c) {
+    const std::string call = now.call;
+    const bool of_parts = call.find("build") != std::string::npos || call.find("split_animation") != std::string::npos;
+    if (of_parts) {
+        Parts p;
+        print_list("model_name", c.p_model.want);
+        c.each_part(p, [](auto &lent, auto &) { print_list(lent.label, lent.want); });
+        return;
+    }
+    if (call.find("season") != std::string::npos) return print_list("figures", c.figures.want);
+    print_list("counts", c.counts.want);
+    print_list("places", c.places.want);
+    print_list("scratch", c.scratch.want);
+}
+
+static void report(const Disagreement &d, const Neighbours &files, Calls &calls) {
+    std::printf("disagreement: seed %llu, case %llu: %s\n", wide_number(now.seed), wide_number(now.number), d.what());
+    std::printf("  asked for number %llu, %llu; out had %zu bytes\n", wide_number(now.i), wide_number(now.j), calls.out.n());
+    report_lent(calls);
+    for (int i = 2; i >= 0; i--) {
+        const Bytes &f = files.files[i].bytes;
+        std::printf("  take %d: %zu bytes, refusal %d", 2 - i, f.size(), files.files[i].refusal());
+        std::printf("%s%s\n", f.size() <= 600 ? ": " : "", f.size() <= 600 ? hex(f).c_str() : "");
+    }
+    std::fflush(stdout);
+}
+
+// Nothing where the case agrees, else what differs; it is reported where that is asked for.
+static std::optional<std::string> run_case(Calls &calls, Neighbours &files, u64 seed, u64 n, bool tell) {
+    now.seed = seed;
+    now.number = n;
+    files.move_to(seed, n);
+    Rng draws = case_rng(seed, n, 1);
+    sides = case_rng(seed, n, 2);
+    calls.r = Rng(draws.next());
+    calls.first.serial = calls.second.serial = 0; // lent anew, so that a case alone has the same memory
+    const File &a = files.files[2];
+    (a.refusal() ? now.refused : now.accepted)++;
+    try {
+        Case{calls, draws, a, files.files[1], files.files[0], is_big(n)}.run();
+        return {};
+    } catch (const Disagreement &d) {
+        if (tell) report(d, files, calls);
+        return d.what();
+    }
+}
+
+// How often each call gave each number, so that a run can be seen to reach them all.
+static void print_answers() {
+    std::map<std::string, std::array<u64, 16>> by_name;
+    for (const auto &entry : now.answers)
+        for (std::size_t i = 0; i < 16; i++) by_name[entry.first][i] += entry.second[i];
+    for (const auto &entry : by_name) {
+        std::printf("%s gave", entry.first.c_str());
+        for (std::size_t i = 0; i < 16; i++)
+            if (entry.second[i]) std::printf(" %zu: %llu,", i, wide_number(entry.second[i]));
+        std::printf("\n");
+    }
+}
+
+static int run(u64 count, u64 seed, u64 from) {
+    Calls calls;
+    Neighbours files;
+    u64 found = 0;
+    for (u64 n = from; n < from + count && found < 10; n++) {
+        if (n % 256 == 0 || is_big(n) || is_big(n - 1)) alarm(300);
+        if (run_case(calls, files, seed, n, true)) found++;
+    }
+    print_answers();
+    std::printf("model: %llu takes (%llu accepted, %llu refused), %llu calls, %llu disagreements\n",
+                wide_number(now.accepted + now.refused), wide_number(now.accepted), wide_number(now.refused),
+                wide_number(now.calls), wide_number(found));
+    return found ? 1 : 0;
+}
+
+// ---- self-test
+
+constexpr u64 self_test_takes = 20000, self_test_seed = 1, self_test_first = 2000; // no big take among them
+
+struct Finding {
+    u64 takes; // up to the one that finds it
+    std::string what;
+};
+
+static std::optional<Finding> takes_until_found(Calls &calls, int which) {
+    alteration = which;
+    Neighbours files;
+    std::optional<Finding> found;
+    for (u64 n = self_test_first; n < self_test_first + self_test_takes && !found; n++)
+        if (const auto what = run_case(calls, files, self_test_seed, n, false)) found = {n - self_test_first + 1, *what};
+    alteration = AsWritten;
+    return found;
+}
+
+// A call that is told one byte more than it was lent has to be caught at the page after it.
+static bool page_catches() {
+    const pid_t child = fork();
+    if (child == 0) {
+        close(1);
+        Lent<u8> name{"name"};
+        do name.lend(Bytes(100, 'A'));
+        while ((reinterpret_cast<std::uintptr_t>(name.at) + 100) % page != 0);
+        volatile std::size_t fault = vmd_first_fault(name.at, 101);
+        _exit(fault == 101 ? 0 : 1);
+    }
+    int status = 0;
+    return child > 0 && waitpid(child, &status, 0) == child && WIFEXITED(status) && WEXITSTATUS(status) == 3;
+}
+
+// So have a byte changed beside what was lent, and one changed in it.
+static bool check_catches(std::ptrdiff_t at) {
+    Lent<u8> name{"name"};
+    do name.lend(Bytes(100, 'A'));
+    while ((reinterpret_cast<std::uintptr_t>(name.at) + 100) % page != 0);
+    name.at[at] = 'B';
+    try {
+        name.check();
+    } catch (const Disagreement &) {
+        return true;
+    }
+    return false;
+}
+
+static int self_test() {
+    const bool caught = page_catches() && check_catches(-1) && check_catches(0) && check_catches(99);
+    std::printf("bytes read past what is lent, written beside it and changed in it: %s\n", caught ? "caught" : "NOT CAUGHT");
+    Calls calls;
+    int found = 0;
+    std::map<char, int> of_letter;
+    const auto as_written = takes_until_found(calls, AsWritten);
+    std::printf("  0   as written: %s\n", as_written ? "DISAGREES" : "agrees over all takes");
+    for (int which = AsWritten + 1; which < AlterationsEnd; which++) {
+        alarm(300);
+        const auto finding = takes_until_found(calls, which);
+        const AlterationNote note = alteration_notes[which];
+        const std::string when = finding ? "take " + std::to_string(finding->takes) + ", " + finding->what : "NOT FOUND";
+        std::printf("%3d %c %s: %s\n", which, note.letter, note.what, when.c_str());
+        if (finding) found++, of_letter[note.letter]++;
+    }
+    std::printf("found of each letter:");
+    for (const auto &entry : of_letter) std::printf(" %c %d", entry.first, entry.second);
+    std::printf("\nmodel self-test: %d of %d alterations found\n", found, AlterationsEnd - 1);
+    return found == AlterationsEnd - 1 && !as_written && caught ? 0 : 1;
+}
+
+static int every_short_name() {
+    const u64 tried = fixed::every_short_name();
+    std::printf("model: %llu names, 0 disagreements\n", wide_number(tried));
+    return 0;
+}
+
+static int huge() {
+    alarm(1800);
+    fixed::huge_file();
+    fixed::huge_join();
+    fixed::huge_build();
+    std::printf("model: sections of 2^31 to 2^32 records, 0 disagreements\n");
+    return 0;
+}
+
+static int usage() {
+    std::fprintf(stderr, "usage: model COUNT SEED [FIRST] | take SEED NUMBER | self-test | names | huge |\n"
+                         "       altered WHICH COUNT SEED [FIRST]\n");
+    return 2;
+}
+
+static int chosen(int argc, char **argv) {
+    const auto number_of = [&](int i) { return std::strtoull(argv[i], nullptr, 10); };
+    const std::string mode = argc > 1 ? argv[1] : "";
+    if (argc == 2 && mode == "self-test") return self_test();
+    if (argc == 2 && mode == "names") return every_short_name();
+    if (argc == 2 && mode == "huge") return huge();
+    if (argc == 4 && mode == "take") {
+        const Bytes f = take_of(number_of(2), number_of(3));
+        return std::fwrite(f.data(), 1, f.size(), stdout) == f.size() ? 0 : 1;
+    }
+    if ((argc == 5 || argc == 6) && mode == "altered") {
+        alteration = static_cast<int>(number_of(2));
+        return run(number_of(3), number_of(4), argc == 6 ? number_of(5) : 0);
+    }
+    if (argc != 3 && argc != 4) return usage();
+    return run(number_of(1), number_of(2), argc == 4 ? number_of(3) : 0);
+}
+
+int main(int argc, char **argv) {
+    catch_signals();
+    try {
+        fixed::takes_to_try();
+        return chosen(argc, argv);
+    } catch (const Disagreement &d) {
+        std::printf("disagreement: %s\nmodel: 1 disagreement\n", d.what());
+        return 1;
+    }
+}

@@ -1,0 +1,1349 @@
+// A model of the file library, written from document 01 (the base) and requests a) to g) of document 02. Quoted sentences are
+// theirs; "header:" marks those of the C interface. It works on lists, copies everything, and is made to be compared with the
+// papers, not to be fast. A function named as a call of the C interface takes the contents of every buffer lent and changes
+// them into the contents after the call; where it returns a refusal it has changed nothing.
+#ifndef MODEL_HPP
+#define MODEL_HPP
+
+#include <algorithm>
+#include <array>
+#include <cstdint>
+#include <map>
+#include <optional>
+#include <string>
+#include <tuple>
+#include <unordered_map>
+#include <utility>
+#include <vector>
+
+#include "alterations.hpp"
+
+namespace model {
+
+using u8 = std::uint8_t;
+using u32 = std::uint32_t;
+using u64 = std::uint64_t;
+__extension__ typedef unsigned __int128 wide; // sums that cannot wrap
+using Bytes = std::vector<u8>;
+using Words = std::vector<u32>;
+using Longs = std::vector<u64>;
+using Name = std::string; // raw bytes
+
+// ---- layouts
+
+enum Section { bones, morphs, cameras, lights, shadows, properties };
+
+// "Each record kind carries its own byte size" (a property's without its IK states)
+constexpr u64 record_size[6] = {111, 23, 61, 28, 9, 9};
+constexpr u64 ik_size = 21;
+constexpr u64 bone_name_width = 15, ik_name_width = 20;
+
+// "All integers and floats in a file are little-endian."
+inline u32 number(const Bytes &f, u64 at) {
+    return u32{f[at]} | u32{f[at + 1]} << 8 | u32{f[at + 2]} << 16 | u32{f[at + 3]} << 24;
+}
+
+template <std::size_t N> std::array<u32, N> numbers(const Bytes &f, u64 at) {
+    std::array<u32, N> all;
+    for (std::size_t i = 0; i < N; i++) all[i] = number(f, at + 4 * i);
+    return all;
+}
+
+template <std::size_t N> std::array<u8, N> bytes(const Bytes &f, u64 at) {
+    std::array<u8, N> all;
+    std::copy_n(f.begin() + static_cast<std::ptrdiff_t>(at), N, all.begin());
+    return all;
+}
+
+// "A name ends before its first zero byte, or fills its field"
+inline u64 name_length(const Bytes &f, u64 at, u64 width) {
+    if (altered(NameWholeField)) return width;
+    u64 n = 0;
+    while (n < width && f[at + n] != 0) n++;
+    return n;
+}
+
+inline Name name(const Bytes &f, u64 at, u64 width) {
+    const char *from = reinterpret_cast<const char *>(f.data()) + at;
+    return Name(from, name_length(f, at, width));
+}
+
+// ---- records; "A float is known by its 32 bits, NaN included."
+
+struct Bone {
+    Name name;
+    u32 frame;
+    std::array<u32, 7> floats; // translation 3 floats, rotation 4 floats
+    std::array<u8, 64> interpolation;
+};
+struct Morph {
+    Name name;
+    u32 frame, weight;
+};
+struct Camera {
+    u32 frame;
+    std::array<u32, 7> floats; // distance, position 3, rotation 3
+    std::array<u8, 24> interpolation;
+    u32 view;
+    bool perspective;
+};
+struct Light {
+    u32 frame;
+    std::array<u32, 6> floats; // color 3 floats, direction 3 floats
+};
+struct Shadow {
+    u32 frame;
+    u8 mode;
+    u32 distance;
+};
+struct Ik {
+    Name name;
+    bool enabled;
+};
+struct Property {
+    u32 frame;
+    bool visible;
+    std::vector<Ik> iks;
+};
+struct Take {
+    Name model;
+    std::vector<Bone> bones;
+    std::vector<Morph> morphs;
+    std::vector<Camera> cameras;
+    std::vector<Light> lights;
+    std::vector<Shadow> shadows;
+    std::vector<Property> properties;
+};
+
+// "those of the same number agree in every field: names as the bytes before the first zero, floats by their 32 bits, flags as
+// true or false, IK states in number, order and each field, all else byte for byte"
+inline bool operator==(const Bone &a, const Bone &b) {
+    return std::tie(a.name, a.frame, a.floats, a.interpolation) == std::tie(b.name, b.frame, b.floats, b.interpolation);
+}
+inline bool operator==(const Morph &a, const Morph &b) {
+    return std::tie(a.name, a.frame, a.weight) == std::tie(b.name, b.frame, b.weight);
+}
+inline bool operator==(const Camera &a, const Camera &b) {
+    return std::tie(a.frame, a.floats, a.interpolation, a.view, a.perspective) ==
+           std::tie(b.frame, b.floats, b.interpolation, b.view, b.perspective);
+}
+inline bool operator==(const Light &a, const Light &b) { return a.frame == b.frame && a.floats == b.floats; }
+inline bool operator==(const Shadow &a, const Shadow &b) {
+    return std::tie(a.frame, a.mode, a.distance) == std::tie(b.frame, b.mode, b.distance);
+}
+inline bool operator==(const Ik &a, const Ik &b) { return a.name == b.name && a.enabled == b.enabled; }
+inline bool operator==(const Property &a, const Property &b) {
+    return std::tie(a.frame, a.visible, a.iks) == std::tie(b.frame, b.visible, b.iks);
+}
+inline bool operator==(const Take &a, const Take &b) {
+    return std::tie(a.model, a.bones, a.morphs, a.cameras, a.lights, a.shadows, a.properties) ==
+           std::tie(b.model, b.bones, b.morphs, b.cameras, b.lights, b.shadows, b.properties);
+}
+
+// "name 15, frame u32, translation 3 floats, rotation 4 floats, interpolation 64 bytes"
+inline Bone bone_at(const Bytes &f, u64 at) {
+    return {name(f, at, bone_name_width), number(f, at + 15), numbers<7>(f, at + 19), bytes<64>(f, at + 47)};
+}
+// "name 15, frame u32, weight float"
+inline Morph morph_at(const Bytes &f, u64 at) {
+    return {name(f, at, bone_name_width), number(f, at + 15), number(f, at + 19)};
+}
+// "frame u32, distance float, position 3, rotation 3, interpolation 24 bytes, field of view u32, perspective byte";
+// "Camera perspective is true when its byte is 0, false otherwise."
+inline Camera camera_at(const Bytes &f, u64 at) {
+    const u8 flag = f[at + 60];
+    const bool perspective = altered(PerspectiveOne) ? flag == 1 : flag == 0;
+    return {number(f, at), numbers<7>(f, at + 4), bytes<24>(f, at + 32), number(f, at + 56), perspective};
+}
+// "frame u32, color 3 floats, direction 3 floats"
+inline Light light_at(const Bytes &f, u64 at) { return {number(f, at), numbers<6>(f, at + 4)}; }
+// "frame u32, mode byte, distance float"; "Self-shadow mode is any byte in the reader."
+inline Shadow shadow_at(const Bytes &f, u64 at) {
+    const u8 mode = altered(ModeFlag) ? std::min<u8>(f[at + 4], 2) : f[at + 4];
+    return {number(f, at), mode, number(f, at + 5)};
+}
+// "name 20, enabled byte"; "visible and IK enabled are true when their byte is not 0"
+inline Ik ik_at(const Bytes &f, u64 at) {
+    const u8 flag = f[at + 20];
+    return {name(f, at, ik_name_width), altered(EnabledOnlyOne) ? flag == 1 : flag != 0};
+}
+// "frame u32, visible byte, IK count u32, then its IK states"
+inline bool visible_at(const Bytes &f, u64 at) { return altered(VisibleOnlyOne) ? f[at + 4] == 1 : f[at + 4] != 0; }
+inline u32 ik_count_at(const Bytes &f, u64 at) { return number(f, at + 5); }
+inline Property property_at(const Bytes &f, u64 at) {
+    Property p{number(f, at), visible_at(f, at), {}};
+    for (u64 j = 0; j < ik_count_at(f, at); j++) p.iks.push_back(ik_at(f, at + 9 + ik_size * j));
+    return p;
+}
+
+// ---- header, both editions
+
+struct Header {
+    int refusal;
+    u64 width; // of the model name, which begins at 30; the sections follow it
+};
+
+inline const Name newer_magic = Name("Vocaloid Motion Data 0002") + Name(5, '\0');
+inline const Name older_magic = Name("Vocaloid Motion Data file") + Name(5, '\0');
+constexpr u64 model_place = 30;
+
+// "The file is VMD when its first 26 bytes equal the magic .. and a zero byte; bytes 26 to 29 may be anything."
+inline bool starts_with(const Bytes &f, const Name &magic, u64 asked) {
+    return std::equal(magic.begin(), magic.begin() + static_cast<std::ptrdiff_t>(asked), f.begin(),
+                      [](char a, u8 b) { return static_cast<u8>(a) == b; });
+}
+
+inline Header read_header(const Bytes &f) {
+    // "fewer than 30 bytes is refusal 1"
+    if (f.size() < 30) return {1, 0};
+    // "Then 20 bytes of model name; too few is 1."
+    if (starts_with(f, newer_magic, altered(MagicWhole) ? 30 : 26)) {
+        if (f.size() < 50) return {altered(ShortHeaderIs2) ? 2 : 1, 0};
+        return {0, 20};
+    }
+    // e) "start with `Vocaloid Motion Data file` and a zero byte, in a 30-byte field, then a model name of 10 bytes .. now
+    // read, with 1 where fewer than 40 bytes are there"
+    if (starts_with(f, older_magic, altered(OlderMagicNoZero) ? 25 : 26) && !altered(OlderStillRefused)) {
+        if (f.size() < 40) return {altered(OlderShortIs2) ? 2 : 1, 0};
+        if (altered(OlderNameOf20)) return f.size() < 50 ? Header{1, 0} : Header{0, 20};
+        return {0, 10};
+    }
+    // "Else refusal 2, also when fewer than 50 bytes are there."
+    return {2, 0};
+}
+
+// ---- reading a whole file
+
+struct Opening {
+    int refusal = 0; // 0, 1 or 2
+    std::array<u32, 6> counts{};
+    std::array<u64, 6> places{};
+    u64 iks = 0;
+    u32 smallest = 0, largest = 0;
+    Longs property_places; // of every property frame
+    Take take;
+};
+
+// "The largest frame is over all six sections, 0 with no records."
+// c) "the smallest frame over all six sections, 0 with no records"
+inline std::vector<Words> frames(const Take &t) {
+    std::vector<Words> all(6);
+    for (const Bone &r : t.bones) all[bones].push_back(r.frame);
+    for (const Morph &r : t.morphs) all[morphs].push_back(r.frame);
+    for (const Camera &r : t.cameras) all[cameras].push_back(r.frame);
+    for (const Light &r : t.lights) all[lights].push_back(r.frame);
+    for (const Shadow &r : t.shadows) all[shadows].push_back(r.frame);
+    for (const Property &r : t.properties) all[properties].push_back(r.frame);
+    return all;
+}
+
+inline u32 largest_frame(const std::vector<Words> &all) {
+    u32 largest = 0;
+    for (const Words &section : all)
+        for (u32 frame : section) largest = std::max(largest, frame);
+    return largest;
+}
+
+inline u32 smallest_frame(const std::vector<Words> &all) {
+    std::optional<u32> smallest;
+    const auto count = [&](u32 frame) { smallest = smallest ? std::min(*smallest, frame) : frame; };
+    for (int s = 0; s < 6; s++) {
+        if (altered(SmallestTwoSections) && s > morphs) continue;
+        if (altered(SmallestNoProperties) && s == properties) continue;
+        if (altered(SmallestEmptySections) && all[s].empty()) count(0);
+        for (u32 frame : all[s]) {
+            if (altered(SmallestNotZero) && frame == 0) continue;
+            count(frame);
+            if (altered(SmallestFirstRecords)) break;
+        }
+    }
+    return smallest.value_or(altered(SmallestNoneLargest) ? 0xFFFFFFFF : 0);
+}
+
+inline void read_records(const Bytes &f, int section, u64 at, u32 count, Take &t) {
+    for (u64 i = 0; i < count; i++, at += record_size[section]) {
+        if (section == bones) t.bones.push_back(bone_at(f, at));
+        if (section == morphs) t.morphs.push_back(morph_at(f, at));
+        if (section == cameras) t.cameras.push_back(camera_at(f, at));
+        if (section == lights) t.lights.push_back(light_at(f, at));
+        if (section == shadows) t.shadows.push_back(shadow_at(f, at));
+    }
+}
+
+// "Property counts are tested at 9 bytes each first; a later frame can still find the file ended, also 1." The first test is
+// the caller's. Gives where the frames end, or nothing where the file ends early.
+inline std::optional<u64> read_properties(const Bytes &f, u64 at, u32 count, Opening &o) {
+    for (u64 i = 0; i < count; i++) {
+        if (f.size() - at < 9) return {};
+        const u64 states = ik_size * ik_count_at(f, at);
+        if (f.size() - at - 9 < states) return {};
+        o.property_places.push_back(at);
+        o.take.properties.push_back(property_at(f, at));
+        at += 9 + states;
+    }
+    return at;
+}
+
+// "At any later count, no bytes left means that this section and all after it are empty. One to three bytes left is refusal
+// 1."; "The bone count is required"; "A bone, morph, property or IK count whose records exceed the bytes left is refusal 1.";
+// "A camera, light or self-shadow count that exceeds the bytes left is accepted: that section is empty, the reader goes to the
+// end, so later sections are empty too."; "Bytes after the last property frame are ignored."
+inline int read_sections(const Bytes &f, u64 at, Opening &o) {
+    for (int s = bones; s <= properties; s++) {
+        const u64 left = f.size() - at;
+        if (left == 0 && (s > bones || altered(BoneCountOptional))) return 0;
+        if (left < 4) return altered(ThreeBytesAreNone) && s > bones ? 0 : 1;
+        const u32 count = number(f, at);
+        at += 4;
+        if (u64{count} * record_size[s] > left - 4) {
+            if (s < cameras || s == properties) return 1;
+            if (altered(OversizedCameraRefused) && s == cameras) return 1;
+            if (altered(OversizedShadowRefused) && s == shadows) return 1;
+            if (altered(EmptiedPlaceKept)) o.places[s] = at;
+            if (altered(LightsAfterOversized) && s == cameras) continue;
+            return 0;
+        }
+        o.counts[s] = count;
+        // "A section's place is just after its count"
+        o.places[s] = altered(PlaceBeforeCount) ? at - 4 : at;
+        if (s == properties) {
+            const auto end = read_properties(f, at, count, o);
+            if (!end || (altered(BytesOverRefused) && *end != f.size())) return 1;
+        } else {
+            read_records(f, s, at, count, o.take);
+            at += u64{count} * record_size[s];
+        }
+    }
+    return 0;
+}
+
+// Of a refused file nothing is read: "the number only".
+inline Opening refused(int number_) {
+    Opening o;
+    o.refusal = number_;
+    return o;
+}
+
+// "Opening checks a whole file and gives six counts, the number of IK states, largest frame and section places."
+inline Opening open(const Bytes &f) {
+    const Header header = read_header(f);
+    if (header.refusal) return refused(header.refusal);
+    Opening o;
+    o.take.model = name(f, model_place, header.width);
+    // "or the file's length where the count is missing or the section was emptied"
+    o.places.fill(altered(MissingPlaceZero) ? 0 : f.size());
+    o.refusal = read_sections(f, model_place + header.width, o);
+    if (o.refusal) return refused(o.refusal);
+    for (const Property &p : o.take.properties) o.iks = p.iks.size() + (altered(IkOfLastFrame) ? 0 : o.iks);
+    const std::vector<Words> all = frames(o.take);
+    o.smallest = smallest_frame(all);
+    o.largest = largest_frame(all);
+    if (altered(OlderPlacesWidened) && header.width == 10)
+        for (u64 &place : o.places) place += 10;
+    return o;
+}
+
+// What the builder takes, and what a take yields.
+struct Parts {
+    Bytes model; // the builder's alone; of a take it has a call of its own
+    Bytes bone_bytes;
+    Words bone_ends;
+    Bytes morph_bytes;
+    Words morph_ends;
+    Bytes cameras, lights, shadows, properties; // back-to-back records
+    Words bone_indices, bone_frames, translations, rotations;
+    Bytes interpolations;
+    Words morph_indices, morph_frames, weights;
+};
+
+// A file and what opening it reads; a call takes it as the bytes that are lent.
+struct File {
+    Bytes bytes;
+    Opening opening;
+    u64 serial;
+    // worked out once, where they are asked for: see exported, tidied and parts
+    mutable std::optional<Bytes> its_export;
+    mutable std::optional<Take> its_tidied;
+    mutable std::optional<Parts> its_parts;
+    explicit File(Bytes contents) : bytes(std::move(contents)), opening(open(bytes)) {
+        static u64 last = 0;
+        serial = ++last;
+    }
+    const Take &take() const { return opening.take; }
+    int refusal() const { return opening.refusal; }
+};
+
+// f) "Place j now holds the position of property frame 16j only"; "fewer than a sixteenth of the frames, rounded up"
+inline u64 frames_per_place() { return altered(ScratchEachEighth) ? 8 : 16; }
+inline u64 places_needed(u64 property_frames) {
+    if (altered(ScratchRoundedDown)) return property_frames / 16;
+    if (altered(ScratchEachFrame)) return property_frames;
+    return (property_frames + frames_per_place() - 1) / frames_per_place();
+}
+
+// "Opening: 1 and 2 as met, then 3."
+inline int parse_animation(const File &f, Longs &scratch, Words &counts, Longs &places, Longs &totals) {
+    const Opening &o = f.opening;
+    if (o.refusal) return o.refusal;
+    if (scratch.size() < places_needed(o.property_places.size())) return 3;
+    // "receives the byte position .. first places first; further places keep their contents"
+    for (u64 i = 0; i < o.property_places.size(); i += frames_per_place())
+        if (i / frames_per_place() < scratch.size()) scratch[i / frames_per_place()] = o.property_places[i];
+    if (altered(ScratchRestCleared))
+        for (u64 j = places_needed(o.property_places.size()); j < scratch.size(); j++) scratch[j] = 0;
+    counts.assign(o.counts.begin(), o.counts.end());
+    places.assign(o.places.begin(), o.places.end());
+    // header: "the number of IK states, the smallest frame and the largest"
+    totals = {o.iks, o.smallest, o.largest};
+    if (altered(SmallestAfterLargest)) std::swap(totals[1], totals[2]);
+    return 0;
+}
+
+// ---- records by number
+
+// Whether n bytes at a place are in the file; "a place whose sum would wrap, counts as outside the file".
+inline bool inside(const Bytes &f, wide at, u64 n) { return at + n + (altered(FetchOneShort) ? 1 : 0) <= f.size(); }
+
+// "gives the record that the layout reads at the place these name, or refusal 4"; "record or IK number at or above the count,
+// or its place outside the file" is 4: nothing.
+inline std::optional<u64> record_place(const Bytes &f, const Words &counts, const Longs &places, int section, u64 i) {
+    const u64 limit = altered(CountsNotAsked) ? 0xFFFFFFFF : u64{counts[section]} + (altered(FetchAtCount) ? 1 : 0);
+    if (i >= limit) return {};
+    wide at = wide{places[section]} + wide{i} * record_size[section];
+    if (altered(FetchWraps)) at = static_cast<u64>(at);
+    if (!inside(f, at, record_size[section])) return {};
+    return static_cast<u64>(at);
+}
+
+// The place after a whole property frame, or nothing where it is not in the file.
+inline std::optional<u64> after_property(const Bytes &f, wide at) {
+    if (!inside(f, at, 9)) return {};
+    const wide end = at + 9 + ik_size * ik_count_at(f, static_cast<u64>(at));
+    // header: "each frame walked over has to have its nine bytes and its IK states in it"
+    if (end > f.size() && !altered(WalkUnchecked)) return {};
+    return static_cast<u64>(end);
+}
+
+// f) "a fetch walks on from there over at most 15 frames"; "a walk that leaves the file is 4"; "a scratch too short for the
+// number .. counts as outside the file"; header: "the frame asked for its nine bytes".
+inline std::optional<u64> property_place(const Bytes &f, const Words &counts, const Longs &scratch, u64 i) {
+    if (i >= u64{counts[properties]} + (altered(FetchAtCount) ? 1 : 0)) return {};
+    u64 j = i / frames_per_place(), walk = i % frames_per_place();
+    if (altered(WalkSixteen) && walk == 0 && j > 0) j--, walk = 16;
+    if (altered(WalkFromLast) && j >= scratch.size() && !scratch.empty()) j = scratch.size() - 1;
+    if (j >= scratch.size()) return {};
+    std::optional<u64> at = scratch[j];
+    for (u64 n = 0; n < walk && at; n++) at = after_property(f, *at);
+    if (!at || !inside(f, *at, 9)) return {};
+    if (altered(WalkAskedWhole) && !after_property(f, *at)) return {};
+    return at;
+}
+
+// header: "and an IK state asked for its own 21"
+inline std::optional<u64> ik_place(const Bytes &f, const Words &counts, const Longs &scratch, u64 i, u64 j) {
+    const auto frame = property_place(f, counts, scratch, i);
+    if (!frame || j >= u64{ik_count_at(f, *frame)} + (altered(IkAtCount) ? 1 : 0)) return {};
+    const wide at = wide{*frame} + 9 + wide{ik_size} * j;
+    if (!inside(f, at, ik_size)) return {};
+    return static_cast<u64>(at);
+}
+
+template <std::size_t N> void append(Words &record, const std::array<u32, N> &floats) {
+    record.insert(record.end(), floats.begin(), floats.end());
+}
+
+// header: "frame, translation x y z, rotation x y z w"
+inline Words fields(const Bone &b) {
+    Words record{b.frame};
+    append(record, b.floats);
+    return record;
+}
+// header: "frame, weight"
+inline Words fields(const Morph &m) { return {m.frame, m.weight}; }
+// header: "frame, distance, position x y z, rotation x y z, field of view, perspective (1 where it is on ..)"
+inline Words fields(const Camera &c) {
+    Words record{c.frame};
+    append(record, c.floats);
+    record.push_back(c.view);
+    record.push_back(c.perspective ? 1 : 0);
+    return record;
+}
+// header: "frame, color r g b, direction x y z"
+inline Words fields(const Light &l) {
+    Words record{l.frame};
+    append(record, l.floats);
+    return record;
+}
+// header: "frame, mode, distance"
+inline Words fields(const Shadow &s) { return {s.frame, s.mode, s.distance}; }
+
+inline int bone_frame(const Bytes &f, const Words &counts, const Longs &places, u64 i, Words &record) {
+    const auto at = record_place(f, counts, places, bones, i);
+    if (!at) return 4;
+    record = fields(bone_at(f, *at));
+    return 0;
+}
+inline int morph_frame(const Bytes &f, const Words &counts, const Longs &places, u64 i, Words &record) {
+    const auto at = record_place(f, counts, places, morphs, i);
+    if (!at) return 4;
+    record = fields(morph_at(f, *at));
+    return 0;
+}
+inline int camera_frame(const Bytes &f, const Words &counts, const Longs &places, u64 i, Words &record) {
+    const auto at = record_place(f, counts, places, cameras, i);
+    if (!at) return 4;
+    record = fields(camera_at(f, *at));
+    return 0;
+}
+inline int light_frame_bits(const Bytes &f, const Words &counts, const Longs &places, u64 i, Words &record) {
+    const auto at = record_place(f, counts, places, lights, i);
+    if (!at) return 4;
+    record = fields(light_at(f, *at));
+    return 0;
+}
+// header: "color r g b, direction x y z"; the frame has a slot of its own
+inline int light_frame(const Bytes &f, const Words &counts, const Longs &places, u64 i, Words &frame, Words &values) {
+    Words record;
+    if (light_frame_bits(f, counts, places, i, record)) return 4;
+    frame = {record[0]};
+    values.assign(record.begin() + 1, record.end());
+    return 0;
+}
+inline int self_shadow_frame(const Bytes &f, const Words &counts, const Longs &places, u64 i, Words &record) {
+    const auto at = record_place(f, counts, places, shadows, i);
+    if (!at) return 4;
+    record = fields(shadow_at(f, *at));
+    return 0;
+}
+// header: "frame, visible (0 or 1), number of IK states"
+inline Words property_fields(const Bytes &f, u64 at) {
+    return {number(f, at), visible_at(f, at) ? u32{1} : u32{0}, ik_count_at(f, at)};
+}
+inline int property_frame(const Bytes &f, const Words &counts, const Longs &scratch, u64 i, Words &record) {
+    const auto at = property_place(f, counts, scratch, i);
+    if (!at) return 4;
+    record = property_fields(f, *at);
+    return 0;
+}
+// header: "The property frame at a place of the file .. and the place of the next one"; "4 where they, or the IK states that
+// they count, are not in the file"
+inline int property_frame_at(const Bytes &f, u64 place, Words &record, Longs &next) {
+    const auto end = after_property(f, place);
+    if (!end || (altered(WalkAtOneShort) && *end == f.size())) return 4;
+    record = property_fields(f, place);
+    next = {*end};
+    return 0;
+}
+// header: "IK state j of property frame i: enabled (0 or 1)"
+inline int ik_state(const Bytes &f, const Words &counts, const Longs &scratch, u64 i, u64 j, Words &enabled) {
+    const auto at = ik_place(f, counts, scratch, i, j);
+    if (!at) return 4;
+    enabled = {ik_at(f, *at).enabled ? u32{1} : u32{0}};
+    return 0;
+}
+
+// ---- names and interpolation bytes
+
+// header: "part receives where the bytes begin in the file, and how many there are; 0, 0 where there are none."
+inline Longs part(u64 at, u64 n) { return n == 0 ? Longs{0, 0} : Longs{at, n}; }
+
+// "in place of refusal 4 .. that part is empty"
+inline Longs name_part(const Bytes &f, std::optional<u64> at, u64 width) {
+    return at ? part(*at, name_length(f, *at, width)) : part(0, 0);
+}
+inline Longs bone_name(const Bytes &f, const Words &counts, const Longs &places, u64 i) {
+    return name_part(f, record_place(f, counts, places, bones, i), bone_name_width);
+}
+inline Longs morph_name(const Bytes &f, const Words &counts, const Longs &places, u64 i) {
+    return name_part(f, record_place(f, counts, places, morphs, i), bone_name_width);
+}
+inline Longs ik_name(const Bytes &f, const Words &counts, const Longs &scratch, u64 i, u64 j) {
+    return name_part(f, ik_place(f, counts, scratch, i, j), ik_name_width);
+}
+// "or for a model name whose header is refused, that part is empty"
+inline Longs model_name(const Bytes &f) {
+    const Header header = read_header(f);
+    if (altered(ModelNameUntested) && header.refusal && f.size() >= 50) return name_part(f, model_place, 20);
+    if (altered(ModelNameOfAccepted) && open(f).refusal) return part(0, 0);
+    return header.refusal ? part(0, 0) : name_part(f, model_place, header.width);
+}
+inline Longs bone_interpolation(const Bytes &f, const Words &counts, const Longs &places, u64 i) {
+    const auto at = record_place(f, counts, places, bones, i);
+    return at ? part(*at + 47, 64) : part(0, 0);
+}
+inline Longs camera_interpolation(const Bytes &f, const Words &counts, const Longs &places, u64 i) {
+    const auto at = record_place(f, counts, places, cameras, i);
+    return at ? part(*at + 32, 24) : part(0, 0);
+}
+
+// ---- the canonical file
+
+inline bool is_nan(u32 bits) { return (bits & 0x7FFFFFFF) > 0x7F800000; }
+
+inline void put(Bytes &out, u32 value) {
+    const u8 little_endian[4] = {static_cast<u8>(value), static_cast<u8>(value >> 8), static_cast<u8>(value >> 16),
+                                 static_cast<u8>(value >> 24)};
+    out.insert(out.end(), little_endian, little_endian + 4);
+}
+inline void put_float(Bytes &out, u32 bits) {
+    if (altered(ZeroesMerged) && bits == 0x80000000) bits = 0;
+    if (altered(NanMerged) && is_nan(bits)) bits = 0x7FC00000;
+    put(out, bits);
+}
+template <std::size_t N> void put_floats(Bytes &out, const std::array<u32, N> &floats) {
+    for (u32 bits : floats) put_float(out, bits);
+}
+// "names padded with zeros"
+inline void put_name(Bytes &out, const Name &n, u64 width) {
+    const u64 length = std::min<u64>(n.size(), width); // longer names are met by altered models alone
+    out.insert(out.end(), n.begin(), n.begin() + static_cast<std::ptrdiff_t>(length));
+    out.insert(out.end(), width - length, u8{0});
+}
+// "flags as 0 or 1 (perspective true is 0)"
+inline void put_flag(Bytes &out, bool flag) { out.push_back(flag ? 1 : 0); }
+
+inline void put_record(Bytes &out, const Bone &b) {
+    put_name(out, b.name, bone_name_width);
+    put(out, b.frame);
+    put_floats(out, b.floats);
+    out.insert(out.end(), b.interpolation.begin(), b.interpolation.end());
+}
+inline void put_record(Bytes &out, const Morph &m) {
+    put_name(out, m.name, bone_name_width);
+    put(out, m.frame);
+    put_float(out, m.weight);
+}
+inline void put_record(Bytes &out, const Camera &c) {
+    put(out, c.frame);
+    put_floats(out, c.floats);
+    out.insert(out.end(), c.interpolation.begin(), c.interpolation.end());
+    put(out, c.view);
+    put_flag(out, !c.perspective);
+}
+inline void put_record(Bytes &out, const Light &l) {
+    put(out, l.frame);
+    put_floats(out, l.floats);
+}
+inline void put_record(Bytes &out, const Shadow &s) {
+    put(out, s.frame);
+    out.push_back(s.mode);
+    put_float(out, s.distance);
+}
+inline void put_record(Bytes &out, const Property &p) {
+    put(out, p.frame);
+    put_flag(out, p.visible);
+    put(out, static_cast<u32>(p.iks.size()));
+    for (const Ik &ik : p.iks) {
+        put_name(out, ik.name, ik_name_width);
+        put_flag(out, ik.enabled);
+    }
+}
+template <class Record> void put_records(Bytes &out, const std::vector<Record> &records) {
+    for (const Record &r : records) put_record(out, r);
+}
+template <class Record> void put_section(Bytes &out, const std::vector<Record> &records) {
+    put(out, static_cast<u32>(records.size()));
+    put_records(out, records);
+}
+
+// "74 + 111b + 23m + 61c + 28l + 9s + 9p + 21k bytes"
+inline u64 canonical_size(const Take &t) {
+    u64 k = 0;
+    for (const Property &p : t.properties) k += p.iks.size();
+    return 74 + 111 * t.bones.size() + 23 * t.morphs.size() + 61 * t.cameras.size() + 28 * t.lights.size() +
+           9 * t.shadows.size() + 9 * t.properties.size() + 21 * k;
+}
+
+// "It writes the 30-byte magic with its five zero bytes, names padded with zeros, all six counts"
+inline Bytes canonical(const Take &t) {
+    Bytes out;
+    out.reserve(canonical_size(t));
+    put_name(out, newer_magic, 30);
+    put_name(out, t.model, 20);
+    put_section(out, t.bones);
+    put_section(out, t.morphs);
+    put_section(out, t.cameras);
+    put_section(out, t.lights);
+    put_section(out, t.shadows);
+    put_section(out, t.properties);
+    return out;
+}
+
+// e) "writes the older edition, 10 bytes shorter than the export, with zeros after the magic and the name, then the export's
+// bytes from its bone count on"
+inline Bytes canonical_older(const Take &t) {
+    Bytes out;
+    put_name(out, altered(OlderMagicLeft) ? newer_magic : older_magic, 30);
+    put_name(out, t.model, 10);
+    const Bytes whole = canonical(t);
+    out.insert(out.end(), whole.begin() + 50, whole.end());
+    return out;
+}
+
+inline const Bytes &exported(const File &f) {
+    if (!f.its_export) f.its_export = canonical(f.take());
+    return *f.its_export;
+}
+
+// ---- saving and joining
+
+// "writes .. at the front of the output; the rest of the output keeps its contents"; "output shorter than the export" is 13
+inline int save(const Bytes &whole, Bytes &out, Longs &written) {
+    if (altered(RefusedWritesSize)) written = {whole.size()};
+    if (out.size() < whole.size() + (altered(ExactIs13) ? 1 : 0)) return 13;
+    std::copy(whole.begin(), whole.end(), out.begin());
+    if (altered(OutputCleared)) std::fill(out.begin() + static_cast<std::ptrdiff_t>(whole.size()), out.end(), u8{0});
+    written = {whole.size()};
+    return 0;
+}
+
+// "Export: 1, 2, 13."
+inline int export_size(const File &f, Longs &size) {
+    if (f.refusal()) return f.refusal();
+    size = {canonical_size(f.take())};
+    return 0;
+}
+inline int export_animation(const File &f, Bytes &out, Longs &written) {
+    if (f.refusal()) return f.refusal();
+    if (altered(OlderExported) && read_header(f.bytes).width == 10) return save(canonical_older(f.take()), out, written);
+    return save(exported(f), out, written);
+}
+
+// e) "15 the model name is over 10 bytes, converter only, tested just before 13"
+inline u64 older_limit() { return altered(OlderLimit9) ? 9 : altered(OlderLimit11) ? 11 : 10; }
+inline int export_older_size(const File &f, Longs &size) {
+    if (f.refusal()) return f.refusal();
+    if (f.take().model.size() > older_limit()) return 15;
+    size = {canonical_size(f.take()) - 10};
+    return 0;
+}
+inline int export_older_animation(const File &f, Bytes &out, Longs &written) {
+    if (f.refusal()) return f.refusal();
+    Bytes whole = canonical_older(f.take());
+    if (altered(OlderAfter13) && out.size() < whole.size()) return 13;
+    if (f.take().model.size() > older_limit()) return 15;
+    if (altered(OlderFieldKept)) std::copy(f.bytes.begin() + 26, f.bytes.begin() + 30, whole.begin() + 26);
+    return save(whole, out, written);
+}
+
+template <class Record> void extend(std::vector<Record> &first, const std::vector<Record> &second) {
+    first.insert(first.end(), second.begin(), second.end());
+}
+
+// "the take whose every section is the first file's records, then the second's. The joined model name is the first file's
+// where that is not empty, else the second's."
+inline Take join(const Take &first, const Take &second) {
+    const Take &front = altered(JoinSwapped) ? second : first, &back = altered(JoinSwapped) ? first : second;
+    Take joined = front;
+    joined.model = first.model.empty() ? second.model : first.model;
+    if (altered(JoinModelSecond) && !second.model.empty()) joined.model = second.model;
+    extend(joined.bones, back.bones);
+    extend(joined.morphs, back.morphs);
+    if (altered(JoinMorphsSwapped)) joined.morphs = second.morphs, extend(joined.morphs, first.morphs);
+    extend(joined.cameras, back.cameras);
+    extend(joined.lights, back.lights);
+    extend(joined.shadows, back.shadows);
+    extend(joined.properties, back.properties);
+    return joined;
+}
+
+// "Joining: first file, second file, 11, 13."; 11 is "a section count above 4,294,967,295"
+inline int join_refusal(const File &first, const File &second) {
+    if (altered(JoinSecondRefusedFirst) && second.refusal()) return second.refusal();
+    if (first.refusal()) return first.refusal();
+    if (second.refusal()) return second.refusal();
+    for (int s = bones; s <= properties; s++)
+        if (u64{first.opening.counts[s]} + second.opening.counts[s] > 0xFFFFFFFF) return 11;
+    return 0;
+}
+inline int join_size(const File &first, const File &second, Longs &size) {
+    if (const int refusal = join_refusal(first, second)) return refusal;
+    size = {canonical_size(join(first.take(), second.take()))};
+    return 0;
+}
+inline int join_animations(const File &first, const File &second, Bytes &out, Longs &written) {
+    if (const int refusal = join_refusal(first, second)) return refusal;
+    return save(canonical(join(first.take(), second.take())), out, written);
+}
+
+// header: "which file it is in (0 the first, 1 the second), where it begins there, and its length; 0, 0, 0 where both are
+// empty"
+inline Longs joined_model(const Bytes &first, const Bytes &second) {
+    const Longs of_first = model_name(first), of_second = model_name(second);
+    if (of_first[1] != 0) return {0, of_first[0], of_first[1]};
+    if (of_second[1] != 0) return {1, of_second[0], of_second[1]};
+    return {0, 0, 0};
+}
+
+inline bool no_records(const Take &t) {
+    return t.bones.empty() && t.morphs.empty() && t.cameras.empty() && t.lights.empty() && t.shadows.empty() &&
+           t.properties.empty();
+}
+
+// c) "Joining gives the smaller of two, a take without records not counting."
+inline u32 joined_smallest(const Opening &first, const Opening &second) {
+    if (!altered(SmallestJoinEmpty)) {
+        if (no_records(first.take)) return second.smallest;
+        if (no_records(second.take)) return first.smallest;
+    }
+    return std::min(first.smallest, second.smallest);
+}
+
+// ---- tidying
+
+// The name by which tracks are told apart: the raw name, the bytes before its first zero.
+inline Name track_name(const Name &n) { return altered(TidyLineFeed) ? n.substr(0, n.find('\n')) : n; }
+
+inline u32 sort_key(u32 frame) {
+    if (altered(TidyDescending)) return ~frame;
+    return altered(TidySigned) ? frame ^ 0x80000000 : frame;
+}
+
+// g) "each track is sorted by frame and holds only the last record in file order for each frame"
+template <class Record> std::vector<Record> tidy_track(const std::vector<Record> &track) {
+    std::map<u32, const Record *> last;
+    for (const Record &r : track) {
+        if (altered(TidyFirstKept)) last.emplace(sort_key(r.frame), &r);
+        else last[sort_key(r.frame)] = &r;
+    }
+    std::vector<Record> kept;
+    if (altered(TidyUnsorted)) {
+        for (const Record &r : track)
+            if (last[sort_key(r.frame)] == &r) kept.push_back(r);
+        return kept;
+    }
+    for (const auto &entry : last) kept.push_back(*entry.second);
+    return kept;
+}
+
+// g) "Bone and morph tracks are the records of one name, laid one after another in order of first appearance"
+template <class Record> std::vector<Record> tidy_named(const std::vector<Record> &records) {
+    std::vector<std::vector<Record>> tracks;
+    std::unordered_map<Name, std::size_t> number;
+    for (const Record &r : records) {
+        Name key = track_name(r.name);
+        if (altered(TidyNothingDropped)) key += std::to_string(r.frame) + std::to_string(tracks.size());
+        const auto found = number.emplace(key, tracks.size());
+        if (found.second) tracks.emplace_back();
+        tracks[found.first->second].push_back(r);
+    }
+    if (altered(TidyTracksByName))
+        std::stable_sort(tracks.begin(), tracks.end(), [](const auto &a, const auto &b) { return a[0].name < b[0].name; });
+    std::vector<Record> kept;
+    for (const auto &track : tracks) extend(kept, tidy_track(track));
+    return kept;
+}
+
+// g) "each other section is one track. The model name is kept."
+inline Take tidy(const Take &t) {
+    Take after;
+    after.model = altered(TidyModelDropped) ? Name() : t.model;
+    after.bones = altered(TidyOneTrack) ? tidy_track(t.bones) : tidy_named(t.bones);
+    after.morphs = tidy_named(t.morphs);
+    after.cameras = tidy_track(t.cameras);
+    after.lights = tidy_track(t.lights);
+    after.shadows = tidy_track(t.shadows);
+    after.properties = altered(TidyDropsNoProperty) ? t.properties : tidy_track(t.properties);
+    return after;
+}
+
+inline const Take &tidied(const File &f) {
+    if (!f.its_tidied) f.its_tidied = tidy(f.take());
+    return *f.its_tidied;
+}
+
+inline std::array<u32, 6> section_counts(const Take &t) {
+    const auto count = [](const auto &records) { return static_cast<u32>(records.size()); };
+    return {count(t.bones), count(t.morphs), count(t.cameras), count(t.lights), count(t.shadows), count(t.properties)};
+}
+
+// g) "The lent scratch has one place per record of the largest section"
+inline u64 tidy_places(const Take &t) {
+    const auto counts = section_counts(t);
+    return altered(TidyScratchBones) ? counts[bones] : *std::max_element(counts.begin(), counts.end());
+}
+
+// g) "For each section, kept and dropped together make up the records read, and both numbers are returned."; "after success
+// these places hold zero and further ones keep their contents"
+inline void tidy_done(const Take &t, const Take &after, Longs &scratch, Words &kept, Words &dropped) {
+    const auto read = section_counts(t), left = section_counts(after);
+    for (int s = 0; s < 6; s++) {
+        kept[s] = altered(TidyKeptIsRead) ? read[s] : left[s];
+        dropped[s] = read[s] - left[s];
+    }
+    if (altered(TidyScratchLeft)) return;
+    const u64 zeroed = altered(TidyScratchAll) ? scratch.size() : std::min<u64>(tidy_places(t), scratch.size());
+    std::fill_n(scratch.begin(), zeroed, u64{0});
+}
+
+inline int tidy_size(const File &f, Longs &scratch, Longs &size, Words &kept, Words &dropped) {
+    if (f.refusal()) return f.refusal();
+    if (scratch.size() < tidy_places(f.take())) return 3;
+    size = {canonical_size(tidied(f))};
+    tidy_done(f.take(), tidied(f), scratch, kept, dropped);
+    return 0;
+}
+
+// g) "A shorter scratch is 3, tested just before 13."
+inline int tidy_animation(const File &f, Longs &scratch, Bytes &out, Longs &written, Words &kept, Words &dropped) {
+    if (f.refusal()) return f.refusal();
+    if (altered(TidyThreeLast) && out.size() < canonical_size(tidied(f))) return 13;
+    if (scratch.size() < tidy_places(f.take())) return 3;
+    if (const int refusal = save(canonical(tidied(f)), out, written)) return refusal;
+    tidy_done(f.take(), tidied(f), scratch, kept, dropped);
+    return 0;
+}
+
+// ---- parts: what the builder takes, and what a take yields
+
+// Calls f with each part of a and the same part of b, the model name left out.
+template <class A, class B, class F> void pairwise(A &a, B &b, F f) {
+    f(a.bone_bytes, b.bone_bytes);
+    f(a.bone_ends, b.bone_ends);
+    f(a.morph_bytes, b.morph_bytes);
+    f(a.morph_ends, b.morph_ends);
+    f(a.cameras, b.cameras);
+    f(a.lights, b.lights);
+    f(a.shadows, b.shadows);
+    f(a.properties, b.properties);
+    f(a.bone_indices, b.bone_indices);
+    f(a.bone_frames, b.bone_frames);
+    f(a.translations, b.translations);
+    f(a.rotations, b.rotations);
+    f(a.interpolations, b.interpolations);
+    f(a.morph_indices, b.morph_indices);
+    f(a.morph_frames, b.morph_frames);
+    f(a.weights, b.weights);
+}
+
+// The whole field of record i's name, for altered models alone.
+inline Name raw_field(const Bytes &f, u64 place, u64 size, u64 i) {
+    return Name(reinterpret_cast<const char *>(f.data()) + place + size * i, bone_name_width);
+}
+
+// a) "Name tables hold distinct raw names in order of first appearance, and each record gets its index."
+struct Table {
+    std::vector<Name> names;
+    Words indices;
+};
+template <class Record> Table table(const std::vector<Record> &records, const Bytes &f, u64 place, u64 size) {
+    Table t;
+    std::unordered_map<Name, u32> index;
+    for (const Record &r : records) {
+        Name key = r.name;
+        if (altered(SplitLineFeed)) key = key.substr(0, key.find('\n'));
+        if (altered(SplitRawFields)) key = raw_field(f, place, size, t.indices.size());
+        const auto found = index.emplace(key, static_cast<u32>(t.names.size()));
+        if (found.second) t.names.push_back(r.name);
+        t.indices.push_back(found.first->second);
+    }
+    return t;
+}
+
+template <class Record> Table last_appearance(const std::vector<Record> &records) {
+    std::vector<Record> turned(records.rbegin(), records.rend());
+    Table t = table(turned, {}, 0, 0);
+    const u32 n = static_cast<u32>(t.names.size());
+    std::reverse(t.names.begin(), t.names.end());
+    std::reverse(t.indices.begin(), t.indices.end());
+    for (u32 &index : t.indices) index = n - 1 - index;
+    return t;
+}
+
+// "bytes, and a u32 end position per name"
+inline void put_table(const Table &t, Bytes &name_bytes, Words &ends) {
+    for (const Name &n : t.names) {
+        if (altered(SplitEmptyNameNone) && n.empty()) continue;
+        if (altered(SplitBeginnings)) ends.push_back(static_cast<u32>(name_bytes.size()));
+        name_bytes.insert(name_bytes.end(), n.begin(), n.end());
+        if (!altered(SplitBeginnings)) ends.push_back(static_cast<u32>(name_bytes.size()));
+    }
+}
+
+// a) "an accepted file should yield what the builder takes"; "Cameras, lights, self-shadows and properties come as canonical
+// records."
+inline Parts split(const File &f) {
+    const Take &t = f.take();
+    const bool last = altered(SplitLastAppearance);
+    const Table of_bones = last ? last_appearance(t.bones) : table(t.bones, f.bytes, f.opening.places[bones], 111);
+    const Table of_morphs = last ? last_appearance(t.morphs) : table(t.morphs, f.bytes, f.opening.places[morphs], 23);
+    Parts p;
+    p.model.assign(t.model.begin(), t.model.end());
+    put_table(of_bones, p.bone_bytes, p.bone_ends);
+    put_table(of_morphs, p.morph_bytes, p.morph_ends);
+    put_records(p.cameras, t.cameras);
+    if (altered(SplitRawFlags))
+        for (u64 i = 0; i < t.cameras.size(); i++) p.cameras[61 * i + 60] = f.bytes[f.opening.places[cameras] + 61 * i + 60];
+    put_records(p.lights, t.lights);
+    put_records(p.shadows, t.shadows);
+    put_records(p.properties, t.properties);
+    p.bone_indices = of_bones.indices;
+    for (const Bone &b : t.bones) {
+        p.bone_frames.push_back(b.frame);
+        p.translations.insert(p.translations.end(), b.floats.begin(), b.floats.begin() + 3);
+        p.rotations.insert(p.rotations.end(), b.floats.begin() + 3, b.floats.end());
+        p.interpolations.insert(p.interpolations.end(), b.interpolation.begin(), b.interpolation.end());
+    }
+    p.morph_indices = of_morphs.indices;
+    for (const Morph &m : t.morphs) {
+        p.morph_frames.push_back(m.frame);
+        p.weights.push_back(m.weight);
+    }
+    return p;
+}
+
+inline const Parts &parts(const File &f) {
+    if (!f.its_parts) f.its_parts = split(f);
+    return *f.its_parts;
+}
+
+// a) "The numbers of names and of name bytes in each table are returned."; header: "the number of bone names and of their
+// bytes, and of morph names and of theirs"
+inline Longs table_sizes(const Parts &p) {
+    if (altered(SplitBytes15)) return {p.bone_ends.size(), 15 * p.bone_ends.size(), p.morph_ends.size(), p.morph_bytes.size()};
+    return {p.bone_ends.size(), p.bone_bytes.size(), p.morph_ends.size(), p.morph_bytes.size()};
+}
+inline bool table_passes(const Parts &p) { return p.bone_bytes.size() > 0xFFFFFFFF || p.morph_bytes.size() > 0xFFFFFFFF; }
+
+// header: "The four numbers alone. Refusals: 1, 2; 14 where a name table would pass 4,294,967,295 bytes."
+inline int split_sizes(const File &f, Longs &sizes) {
+    if (f.refusal()) return f.refusal();
+    const Parts &p = parts(f);
+    if (table_passes(p)) return 14;
+    sizes = table_sizes(p);
+    return 0;
+}
+
+// a) "14 a table, column or record buffer is too short or a name table passes 4,294,967,295 bytes, tested after 1 and 2,
+// nothing written"; "Places past those written keep their contents."
+inline int split_animation_into_parts(const File &f, Parts &buffers, Longs &sizes) {
+    if (f.refusal()) return f.refusal();
+    const Parts &p = parts(f);
+    bool short_one = table_passes(p);
+    pairwise(p, buffers, [&](const auto &part, const auto &buffer) {
+        if (buffer.size() < part.size() + (altered(SplitExactIs14) ? 1 : 0)) short_one = true;
+    });
+    if (altered(SplitPropertiesShort) && buffers.properties.size() < p.properties.size())
+        short_one = buffers.properties.size() < 9 * f.take().properties.size();
+    if (altered(SplitSizesOn14)) sizes = table_sizes(p);
+    if (short_one) return 14;
+    pairwise(p, buffers, [&](const auto &part, auto &buffer) {
+        if (altered(SplitRestCleared)) std::fill(buffer.begin(), buffer.end(), 0);
+        std::copy_n(part.begin(), std::min(part.size(), buffer.size()), buffer.begin());
+    });
+    sizes = table_sizes(p);
+    return 0;
+}
+
+// ---- the name test
+
+inline bool good_single(u8 b) {
+    if (altered(FaultA0Good) && b == 0xA0) return true;
+    if (altered(FaultSingle80) && b == 0x80) return false;
+    return b <= 0x80 || (b >= 0xA1 && b <= 0xDF);
+}
+inline bool lead(u8 b) {
+    if (altered(FaultLeadFD) && b == 0xFD) return true;
+    if (altered(FaultLeadE0) && b == 0xE0) return false;
+    return (b >= 0x81 && b <= 0x9F) || (b >= 0xE0 && b <= 0xFC);
+}
+inline bool trail(u8 b) {
+    if (altered(FaultTrail7F) && b == 0x7F) return true;
+    if (altered(FaultTrail80) && b == 0x80) return false;
+    return (b >= 0x40 && b <= 0x7E) || (b >= 0x80 && b <= 0xFC);
+}
+
+// d) "that of the first byte, read left to right, that starts neither a good single byte nor a good pair, or the length where
+// all is good"
+inline u64 first_fault(const u8 *n, u64 length) {
+    u64 fault = length;
+    for (u64 i = 0; i < length;) {
+        if (good_single(n[i])) i += 1;
+        else if (lead(n[i]) && i + 1 < length && trail(n[i + 1])) i += 2;
+        else if (altered(FaultLoneLead) && lead(n[i]) && i + 1 == length) i += 1;
+        else if (altered(FaultLast)) fault = i, i += 1;
+        else return altered(FaultSecondByte) && lead(n[i]) ? i + 1 : i;
+    }
+    return fault;
+}
+
+// ---- building
+
+inline bool finite(u32 bits) {
+    if (altered(BuildInfinityTaken)) return !is_nan(bits);
+    return (bits & 0x7F800000) != 0x7F800000;
+}
+template <class Floats> bool all_finite(const Floats &floats) { return std::all_of(floats.begin(), floats.end(), finite); }
+
+// "a u32 end position per name, never falling, the last equal to the byte length; with no names the bytes are empty"
+inline bool table_ends_wrong(const Bytes &name_bytes, const Words &ends) {
+    const u64 last = ends.empty() ? 0 : ends.back();
+    if (last != name_bytes.size()) return true;
+    if (altered(BuildFallingEnds)) return false;
+    return !std::is_sorted(ends.begin(), ends.end());
+}
+
+// "back-to-back records in the layouts above, names and flags read as the reader reads them"; nothing where they are "cut or
+// with bytes over"
+inline std::optional<std::vector<Property>> whole_properties(const Bytes &records) {
+    std::vector<Property> all;
+    for (u64 at = 0; at < records.size();) {
+        const u64 left = records.size() - at;
+        if (left < 9 || ik_size * ik_count_at(records, at) > left - 9) return {};
+        all.push_back(property_at(records, at));
+        at += 9 + ik_size * all.back().iks.size();
+    }
+    return all;
+}
+
+// Cause 5: "name table ends wrong, record bytes no whole number of records, properties cut or with bytes over"
+inline bool tables_not_whole(const Parts &p) {
+    return table_ends_wrong(p.bone_bytes, p.bone_ends) || table_ends_wrong(p.morph_bytes, p.morph_ends);
+}
+inline bool records_not_whole(const Parts &p) {
+    return p.cameras.size() % 61 || p.lights.size() % 28 || p.shadows.size() % 9 || !whole_properties(p.properties);
+}
+
+inline std::vector<Name> table_names(const Bytes &name_bytes, const Words &ends) {
+    std::vector<Name> names;
+    u64 from = 0;
+    for (u32 end : ends) {
+        if (end < from || end > name_bytes.size()) return names; // falling ends, met by altered models alone
+        names.emplace_back(name_bytes.begin() + static_cast<std::ptrdiff_t>(from), name_bytes.begin() + end);
+        from = end;
+    }
+    return names;
+}
+
+inline int bytes_refusal(const Name &n) {
+    return first_fault(reinterpret_cast<const u8 *>(n.data()), n.size()) < n.size() ? 7 : 0;
+}
+// Cause 6: "model name over 20 bytes, table name over 15, or a zero byte in one"; "(each 6, then 7)"
+inline int width_refusal(const Name &n, u64 width) { return n.size() > width || n.find('\0') != Name::npos ? 6 : 0; }
+inline int name_refusal(const Name &n, u64 width) {
+    const int refusal = width_refusal(n, width);
+    return refusal ? refusal : bytes_refusal(n);
+}
+// "each": one name after another, as the Rust's loop over validate_vmd_parts_name has it
+inline int names_refusal(const std::vector<Name> &names) {
+    const u64 width = altered(BuildName16) ? 16 : bone_name_width;
+    if (altered(BuildAllSixesFirst))
+        for (const Name &n : names)
+            if (width_refusal(n, width)) return 6;
+    for (const Name &n : names)
+        if (const int refusal = name_refusal(n, width)) return refusal;
+    return 0;
+}
+
+// "camera, light, bone or morph float not finite" is 8
+inline int cameras_refusal(const Take &t) {
+    for (const Camera &c : t.cameras)
+        if (!all_finite(c.floats) || (altered(BuildViewFinite) && !finite(c.view))) return 8;
+    return 0;
+}
+inline int lights_refusal(const Take &t) {
+    for (const Light &l : t.lights)
+        if (!all_finite(l.floats)) return 8;
+    return 0;
+}
+// "self-shadow distance not finite, or mode above 2" is 9
+inline int shadows_refusal(const Take &t) {
+    for (const Shadow &s : t.shadows)
+        if (!finite(s.distance) || s.mode > (altered(BuildMode3) ? 3 : 2)) return 9;
+    return 0;
+}
+// "IK names (7)"
+inline int iks_refusal(const Parts &given, const Take &t) {
+    u64 at = 0;
+    for (const Property &p : t.properties) {
+        at += 9;
+        for (const Ik &ik : p.iks) {
+            const u64 whole = first_fault(given.properties.data() + at, ik_name_width);
+            if (bytes_refusal(ik.name) || (altered(BuildIkWholeField) && whole < ik_name_width)) return 7;
+            at += ik_size;
+        }
+    }
+    return 0;
+}
+// "bone or morph column lengths disagree" is 10
+inline int columns_refusal(const Parts &p) {
+    const u64 b = p.bone_indices.size(), m = p.morph_indices.size();
+    const bool agree = p.bone_frames.size() == b && p.translations.size() == 3 * b && p.rotations.size() == 4 * b &&
+                       p.interpolations.size() == 64 * b && p.morph_frames.size() == m && p.weights.size() == m;
+    return agree ? 0 : 10;
+}
+// "a section count above 4,294,967,295" is 11
+inline int counts_refusal(const Parts &p, const Take &t) {
+    for (u64 count : {p.bone_indices.size(), p.morph_indices.size(), t.cameras.size(), t.lights.size(), t.shadows.size(),
+                      t.properties.size()})
+        if (count > 0xFFFFFFFF) return 11;
+    return 0;
+}
+
+// "bones in turn (12, then 8)"; "name index at or above the table's length" is 12
+inline int build_bones(const Parts &p, const std::vector<Name> &names, Take &t) {
+    for (u64 i = 0; altered(BuildIndicesFirst) && i < p.bone_indices.size(); i++)
+        if (p.bone_indices[i] >= names.size()) return 12;
+    for (u64 i = 0; i < p.bone_indices.size(); i++) {
+        Bone b;
+        b.frame = p.bone_frames[i];
+        std::copy_n(p.translations.begin() + static_cast<std::ptrdiff_t>(3 * i), 3, b.floats.begin());
+        std::copy_n(p.rotations.begin() + static_cast<std::ptrdiff_t>(4 * i), 4, b.floats.begin() + 3);
+        std::copy_n(p.interpolations.begin() + static_cast<std::ptrdiff_t>(64 * i), 64, b.interpolation.begin());
+        if (altered(BuildFloatFirst) && !all_finite(b.floats)) return 8;
+        if (p.bone_indices[i] >= names.size()) return 12;
+        if (!all_finite(b.floats)) return 8;
+        b.name = names[p.bone_indices[i]];
+        t.bones.push_back(b);
+    }
+    return 0;
+}
+// "morphs likewise"
+inline int build_morphs(const Parts &p, const std::vector<Name> &names, Take &t) {
+    for (u64 i = 0; i < p.morph_indices.size(); i++) {
+        if (altered(BuildFloatFirst) && !finite(p.weights[i])) return 8;
+        if (p.morph_indices[i] >= names.size()) return 12;
+        if (!finite(p.weights[i])) return 8;
+        t.morphs.push_back({names[p.morph_indices[i]], p.morph_frames[i], p.weights[i]});
+    }
+    return 0;
+}
+
+// "Building: 5; model name, bone names, morph names (each 6, then 7); cameras, lights, self-shadows, IK names (7); 10; 11;
+// bones in turn (12, then 8); morphs likewise; 13." The last is the caller's.
+inline int build(const Parts &p, Take &t) {
+    if (tables_not_whole(p)) return 5;
+    if (!altered(BuildWholeLast) && records_not_whole(p)) return 5;
+    t.model.assign(p.model.begin(), p.model.end());
+    const std::vector<Name> bone_names = table_names(p.bone_bytes, p.bone_ends);
+    const std::vector<Name> morph_names = table_names(p.morph_bytes, p.morph_ends);
+    if (const int refusal = name_refusal(t.model, 20)) return refusal;
+    if (altered(BuildMorphNamesFirst))
+        if (const int refusal = names_refusal(morph_names)) return refusal;
+    if (const int refusal = names_refusal(bone_names)) return refusal;
+    if (const int refusal = names_refusal(morph_names)) return refusal;
+    if (records_not_whole(p)) return 5;
+    read_records(p.cameras, cameras, 0, static_cast<u32>(p.cameras.size() / 61), t);
+    read_records(p.lights, lights, 0, static_cast<u32>(p.lights.size() / 28), t);
+    read_records(p.shadows, shadows, 0, static_cast<u32>(p.shadows.size() / 9), t);
+    t.properties = *whole_properties(p.properties);
+    if (altered(BuildColumnsFirst) && columns_refusal(p)) return 10;
+    if (const int refusal = cameras_refusal(t)) return refusal;
+    if (const int refusal = lights_refusal(t)) return refusal;
+    if (altered(BuildIkBeforeShadows) && iks_refusal(p, t)) return 7;
+    if (const int refusal = shadows_refusal(t)) return refusal;
+    if (const int refusal = iks_refusal(p, t)) return refusal;
+    if (const int refusal = columns_refusal(p)) return refusal;
+    if (const int refusal = counts_refusal(p, t)) return refusal;
+    if (const int refusal = build_bones(p, bone_names, t)) return refusal;
+    return build_morphs(p, morph_names, t);
+}
+
+inline int build_size(const Parts &p, Longs &size) {
+    Take t;
+    if (const int refusal = build(p, t)) return refusal;
+    size = {canonical_size(t)};
+    return 0;
+}
+// "It writes the canonical file."
+inline int build_animation_from_parts(const Parts &p, Bytes &out, Longs &written) {
+    Take t;
+    if (const int refusal = build(p, t)) return refusal;
+    return save(canonical(t), out, written);
+}
+
+// ---- season figures
+
+// header: places in the two arrays
+enum SeasonPlace {
+    season_smallest = 0,
+    season_largest = 6,
+    season_total = 0,
+    season_records = 6,
+    season_bone_names = 7,
+    season_morph_names = 8,
+    season_accepted = 9,
+    season_refused = 10
+};
+
+// b) "No takes gives zeros throughout."
+inline void season_none(Words &counts, Longs &figures) {
+    counts.assign(12, 0);
+    figures.assign(11, 0);
+}
+
+// b) "each take's distinct bone names and distinct morph names"
+template <class Record> u64 distinct(const std::vector<Record> &records, const Bytes &f, u64 place, u64 size) {
+    if (altered(SeasonNameRecords)) return records.size();
+    std::unordered_map<Name, bool> names;
+    for (u64 i = 0; i < records.size(); i++)
+        names[altered(SeasonRawFields) ? raw_field(f, place, size, i) : records[i].name] = true;
+    return names.size();
+}
+
+// What one accepted take adds to the 64-bit figures, refused left out.
+inline Longs season_share(const File &f) {
+    Longs share(11, 0);
+    const auto counts = section_counts(f.take());
+    for (int s = 0; s < 6; s++) {
+        share[season_total + s] = counts[s];
+        if (s < 5 || !altered(SeasonFirstFive)) share[season_records] += counts[s];
+    }
+    share[season_bone_names] = distinct(f.take().bones, f.bytes, f.opening.places[bones], 111);
+    share[season_morph_names] = distinct(f.take().morphs, f.bytes, f.opening.places[morphs], 23);
+    share[season_accepted] = 1;
+    return share;
+}
+
+// b) "Totals, the mean's over all six sections, the two sums and the numbers of accepted and refused takes are 64-bit; a take
+// that would pass that adds only to refused"
+inline bool season_passes(const Longs &figures, const Longs &share) {
+    for (int i = 0; i < season_refused; i++) {
+        const u64 room = 0xFFFFFFFFFFFFFFFF - figures[i];
+        if (share[i] > room || (altered(SeasonExactRefused) && share[i] == room && room < 100)) return true;
+    }
+    return false;
+}
+
+// b) "A take that is refused is counted as refused and adds nothing else."; "the refused number stops at its largest value"
+inline void season_refuse(Longs &figures) {
+    u64 &refused = figures[season_refused];
+    if (refused != 0xFFFFFFFFFFFFFFFF || altered(SeasonRefusedWraps)) refused++;
+    else if (altered(SeasonRefusedStops)) figures[season_accepted]++;
+}
+
+// b) "per section the total, the smallest and the largest count"; "Smallest and largest are over accepted takes"; header:
+// "While it is 0 the first take that is accepted sets smallest and largest, whatever stood there."
+inline void season_extremes(const File &f, bool first, Words &counts) {
+    const auto of_take = section_counts(f.take());
+    for (int s = 0; s < 6; s++) {
+        u32 &smallest = counts[season_smallest + s], &largest = counts[season_largest + s];
+        if (altered(SeasonEmptyNotSmallest) && of_take[s] == 0 && !first) continue;
+        const bool set = first && !altered(SeasonSmallestStays);
+        smallest = set ? of_take[s] : std::min(smallest, of_take[s]);
+        largest = first || altered(SeasonLargestLast) ? of_take[s] : std::max(largest, of_take[s]);
+    }
+}
+
+inline void season_add(const File &f, Words &counts, Longs &figures) {
+    if (f.refusal()) return season_refuse(figures);
+    const Longs share = season_share(f);
+    if (season_passes(figures, share)) {
+        if (altered(SeasonRefusedAdds)) season_extremes(f, false, counts);
+        return season_refuse(figures);
+    }
+    season_extremes(f, figures[season_accepted] == 0, counts);
+    for (int i = 0; i < season_refused; i++) figures[i] += share[i];
+}
+
+// b) "the mean records per accepted take as quotient and remainder"; "with none accepted .. the mean's two numbers are 0"
+inline Longs season_mean(const Longs &figures) {
+    const u64 records = figures[season_records], accepted = figures[season_accepted];
+    if (accepted == 0) return altered(SeasonMeanNone) ? Longs{records, 0} : Longs{0, 0};
+    if (altered(SeasonMeanRounded)) return {records / accepted + (records % accepted != 0), records % accepted};
+    return {records / accepted, records % accepted};
+}
+
+} // namespace model
+
+#endif
