@@ -213,7 +213,7 @@ before-zero-all (x ∷ l) zero h none = absurd (not-suc-le-zero h)
 before-zero-all (zero ∷ l) (suc n) h none = absurd (none 0 (zero-lt-suc n) refl)
 before-zero-all (suc b ∷ l) (suc n) h none = ap (λ (t : List ℕ). suc b ∷ t) (before-zero-all l n (le-of-suc-le-suc h) (λ k m. none (suc k) (suc-le-suc m)))
 
-padded-nil : (n : ℕ) → padded n [] ≡ replicate n 0
+pub padded-nil : (n : ℕ) → padded n [] ≡ replicate n 0
 unfolding padded
 padded-nil zero = refl
 padded-nil (suc n) = ap (λ (t : List ℕ). 0 ∷ t) (padded-nil n)

@@ -23,7 +23,7 @@ unfolding digits
 length-digits zero v = refl
 length-digits (suc n) v = ap suc (length-digits n (v / 256))
 
-digits-block : (n a b : ℕ) → b < 256 → digits (suc n) (a * 256 + b) ≡ b ∷ digits n a
+pub digits-block : (n a b : ℕ) → b < 256 → digits (suc n) (a * 256 + b) ≡ b ∷ digits n a
 unfolding digits
 digits-block n a b h =
     let q : (a * 256 + b) / 256 ≡ a = omega arith in

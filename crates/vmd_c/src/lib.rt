@@ -13,7 +13,7 @@ use vmd_reader::VmdPropertyStep;
 use vmd_reader::VmdSelfShadowAnswer;
 use vmd_season::VmdSeason;
 ghost use mathlib.Core.Path.{_≡_};
-ghost use mathlib.Core.List.{[], _∷_};
+ghost use mathlib.Core.List.{[]};
 ghost use Prim.Native.Nat.{_*_};
 ghost use lib.ListN.{length};
 ghost use Rattle.vmd_format.specs.Bytes.{flag-byte};

@@ -3,7 +3,7 @@ use Prim.Native.Nat.{ℕ, zero, suc, _+_, _≤_, _<_}
 use mathlib.Core.Path.{_≡_, refl, ap, sym}
 use mathlib.Core.Logic.{_⊎_, inl, inr}
 use mathlib.Core.Bool.{Bool, true, false, not, _&&_}
-use mathlib.Core.List.{List, [], _∷_, map}
+use mathlib.Core.List.{List, [], _∷_, _++_, map}
 use native.Mathlib.Decide.{ℕ-discrete}
 use native.Mathlib.Omega.{arith}
 use borrow.Author.Tests.{eq-eqb, eqb-true}
@@ -55,6 +55,20 @@ module _ {A : Type 0} where
       go : (x : Bool) → All P (select f l) → All P (keep-if x a (select f l))
       go true k = (h .0, k)
       go false k = k
+
+  pub select-append : (f : A → Bool) (l m : List A) → select f (l ++ m) ≡ select f l ++ select f m
+  unfolding select keep-if
+  select-append f [] m = refl
+  select-append f (a ∷ l) m = rw (select-append f l m) (go (f a))
+    where
+      go : (x : Bool) → keep-if x a (select f l ++ select f m) ≡ keep-if x a (select f l) ++ select f m
+      go true = refl
+      go false = refl
+
+  pub select-none : (f : A → Bool) (l : List A) → All (λ a. f a ≡ false) l → select f l ≡ []
+  unfolding select keep-if
+  select-none f [] h = refl
+  select-none f (a ∷ l) h = rw (h .0, select-none f l (h .1))
 
   pub select-passed : (f : A → Bool) (l : List A) → All (λ a. f a ≡ true) (select f l)
   unfolding select keep-if

@@ -1,5 +1,5 @@
 -- Files built from parts, each refusal of the builder, and their order.
-use Prim.Native.Nat.{ℕ, zero, suc, _+_, _*_}
+use Prim.Native.Nat.{ℕ, _+_, _*_}
 use mathlib.Core.Path.{_≡_, refl}
 use mathlib.Core.Bool.{Bool, true, false, _&&_}
 use mathlib.Core.List.{List, [], _∷_, _++_}
@@ -10,7 +10,7 @@ use Rattle.vmd_format.specs.Answer.{declined, given, and-then, fitted}
 use Rattle.vmd_format.specs.Read.{lenient}
 use Rattle.vmd_format.specs.Take.{Take, read-take}
 use Rattle.vmd_format.specs.Parts.{NameTable, Parts, Check, passes, fails, _next_, each, upto, columns-check, counts-check, bone-check, take-of-parts, built, build}
-use Rattle.vmd_format.specs.Computed.{computed, declines, bytes-of, start, fours, u1, bone-said, morph-said, camera-bytes, camera-said, light-bytes, light-said, shadow-bytes, shadow-said, ik-bytes, ik-said}
+use Rattle.vmd_format.specs.Computed.{computed, declines, bytes-of, start, fours, u1, bone-said, morph-said, camera-bytes, camera-said, light-bytes, light-said, shadow-bytes, shadow-said, ik-bytes, ik-said, every}
 
 -- ---- parts in four groups
 
@@ -185,11 +185,6 @@ pub eight : T (
     && morphs-refused (0 ∷ [], 0 ∷ [], 0x7F800000 ∷ []) 8)
 unfolding computed
 eight = tt
-
--- every k below n
-abbrev every : ℕ → (ℕ → Bool) → Bool
-every zero f = true
-every (suc n) f = f n && every n f
 
 -- n zero bytes but for an infinite number k, counted in fours; n zeros but for an infinite one, number k
 abbrev infinite-at : ℕ → ℕ → List ℕ

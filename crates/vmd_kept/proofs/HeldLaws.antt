@@ -11,9 +11,9 @@ use Rattle.vmd_laws.specs.ReadLaws.{All, all-append}
 use Rattle.vmd_keys.specs.Names.{select}
 use Rattle.vmd_keys.specs.Heap.{Swaps, Ascending}
 use Rattle.vmd_keys.specs.HeapLaws.{swaps-length}
-use Rattle.vmd_count.specs.DistinctLaws.{member-all, all-select, select-passed}
+use Rattle.vmd_count.specs.DistinctLaws.{member-all, all-select, select-passed, select-append}
 use Rattle.vmd_tracks.specs.Tracks.{put, lasts}
-use Rattle.vmd_tracks.specs.TrackLaws.{Sorted, keep-true, keep-false, select-append, all-map, all-lasts, lasts-sorted, lasts-some}
+use Rattle.vmd_tracks.specs.TrackLaws.{Sorted, keep-true, keep-false, all-map, all-lasts, lasts-sorted, lasts-some}
 use Rattle.vmd_tracks.specs.RankedLaws.{sorted-select}
 use Rattle.vmd_sort.specs.Order.{rank}
 use Rattle.vmd_sort.specs.OrderLaws.{word}

@@ -7,8 +7,9 @@ use native.Mathlib.Omega.{arith}
 use borrow.Author.Tests.{ltb-true, ltb-false, le-ltb, lt-ltb, not-true}
 use lib.Dec.{ltb}
 use lib.ListN.{length, getD, take}
+use Rattle.vmd_count.specs.DistinctLaws.{select-none}
 use Rattle.vmd_keys.specs.Names.{select}
-use Rattle.vmd_tracks.specs.TrackLaws.{Sorted, Test, passed, failed, test, keep-true, keep-false, select-none, all-map}
+use Rattle.vmd_tracks.specs.TrackLaws.{Sorted, Test, passed, failed, test, keep-true, keep-false, all-map}
 use Rattle.vmd_sort.specs.SortLaws.{all-at}
 use Rattle.vmd_kept.specs.Window.{above, between}
 

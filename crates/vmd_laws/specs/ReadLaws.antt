@@ -33,6 +33,11 @@ pub all-append : {A : Type 0} (P : A → Type 0) (l m : List A) → All P l → 
 all-append P [] m h k = k
 all-append P (a ∷ l) m h k = (h .0, all-append P l m (h .1) k)
 
+pub write-all-append : {A : Type 0} (w : A → List ℕ) (l m : List A) → write-all w (l ++ m) ≡ write-all w l ++ write-all w m
+unfolding write-all
+write-all-append w [] m = refl
+write-all-append w (a ∷ l) m = rw (write-all-append w l m, append-assoc)
+
 pub record CodecLaws {A : Type 0} (C : Codec A) (Good : A → Type 0) : Type 0 where
   pub wide : (a : A) → C .least ≤ length (C .write a)
   pub back : (a : A) (rest : List ℕ) → Good a → C .read (C .write a ++ rest) ≡ got a rest

@@ -1,9 +1,10 @@
 -- Laws of what is written: the header, and a section. Assumes nothing.
 use Prim.Native.Nat.{ℕ, _+_, _≤_}
-use mathlib.Core.Path.{_≡_, refl, _∙_}
+use mathlib.Core.Path.{_≡_, _∙_}
 use mathlib.Core.List.{List, [], _∷_, _++_, append-assoc}
 use native.Mathlib.Omega.{arith}
 use lib.ListN.{length, drop, length-append}
+use Rattle.vmd_laws.specs.ReadLaws.{write-all-append}
 use Rattle.vmd_format.specs.Bytes.{u32-bytes, padded}
 use Rattle.vmd_format.specs.Layout.{Layout}
 use Rattle.vmd_format.specs.Read.{Codec, fixed, table, write-all, write-counted}
@@ -37,11 +38,6 @@ module _ (e : Edition) {l : List ℕ} (m : List ℕ) (h : Room l 0 (write-header
   }
 
 -- ---- a section: the count of both, the first file's records, the second's
-
-write-all-append : {A : Type 0} (w : A → List ℕ) (l m : List A) → write-all w (l ++ m) ≡ write-all w l ++ write-all w m
-unfolding write-all
-write-all-append w [] m = refl
-write-all-append w (a ∷ l) m = rw (write-all-append w l m, append-assoc)
 
 counted-both : {A : Type 0} (C : Codec A) (l m : List A) {i j : ℕ} → length l ≡ i → length m ≡ j
     → write-counted C (l ++ m) ≡ u32-bytes (i + j) ++ (write-all (C .write) l ++ write-all (C .write) m)

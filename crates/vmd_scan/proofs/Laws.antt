@@ -1,29 +1,20 @@
 -- Laws of scanning: its steps make the format's scan, turns of the loops over frames, and what callers know of a scan. Assumes
 -- nothing.
-use Prim.Native.Nat.{ℕ, zero, suc, _+_, _*_, _-_, _≤_, _<_, min}
-use mathlib.Core.Path.{_≡_, refl, sym, ap, _∙_}
+use Prim.Native.Nat.{ℕ, _+_, _*_, _-_, _≤_, _<_}
+use mathlib.Core.Path.{_≡_, refl, sym, _∙_}
 use mathlib.Core.Bool.{Bool, true, false}
-use mathlib.Core.List.{List, [], _∷_, _++_, append-assoc}
+use mathlib.Core.List.{List}
 use native.Mathlib.Nat.{mul-le-mul-left}
-use native.Mathlib.Numerals.{add-one}
 use native.Mathlib.Omega.{arith}
 use borrow.Author.Tests.{le-leb, lt-leb}
 use lib.Dec.{leb}
-use lib.ListN.{length, take, drop, set, take-append-drop}
-use lib.Seq.{take-suc-set, drop-set-lt}
+use lib.ListN.{length, drop}
 use Rattle.vmd_format.specs.Bytes.{u32}
-use Rattle.vmd_format.specs.Refusal.{Refusal, file-ends-early}
+use Rattle.vmd_format.specs.Refusal.{file-ends-early}
 use Rattle.vmd_format.specs.Answer.{Answer, declined, given, and-then, map-answer}
 use Rattle.vmd_format.specs.Read.{Oversized, refuse, Manner}
-use Rattle.vmd_format.specs.Take.{sections}
-use Rattle.vmd_format.specs.Opening.{places-needed}
-use Rattle.vmd_format.specs.Fetch.{model-of, next-frame}
-use Rattle.vmd_laws.specs.Places.{header-place, HeaderPlaces, header-places, Span, extent-in, no-span, records-span, count-span, span, optional-if, optional-span, walk, scan-sections, Reaches, frame-end, sixteenth-places}
+use Rattle.vmd_laws.specs.Places.{Span, extent-in, no-span, records-span, count-span, span, optional-if, optional-span, walk, scan-sections}
 use Rattle.vmd_laws.specs.PlacesLaws.{Holds, Within, optional-within, walk-next}
-use Rattle.vmd_laws.specs.WalkLaws.{reaches-split}
-use Rattle.vmd_laws.specs.ScanLaws.{Headed, headed, no-model}
-use Rattle.vmd_places.specs.Parts.{file-part, Cuts, name-in}
-use Rattle.vmd_places.proofs.Parts.{front-name, no-bytes, front-cuts}
 use Rattle.vmd_scan.specs.Stages.{Numbered, number-if, read-number, Optional, nothing, there, optional-number-if, optional-number, counted-if, counted-span, Back, scan-front, scan-back, scan-end}
 
 -- records of at most 111 bytes, as many as a count says, fit a size

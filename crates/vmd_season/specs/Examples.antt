@@ -1,13 +1,13 @@
 -- Season figures of files that are written out, computed: another number for every figure, each limit of 64 bits, and two files
 -- that differ only where no figure looks.
-use Prim.Native.Nat.{ℕ, zero, suc, _+_, _-_}
+use Prim.Native.Nat.{ℕ, _+_, _-_}
 use mathlib.Core.Path.{_≡_, refl}
-use mathlib.Core.Bool.{Bool, true, false, not, _&&_}
+use mathlib.Core.Bool.{Bool, true, false, not}
 use mathlib.Core.List.{List, [], _∷_, _++_}
 use lib.ListN.{getD, replicate}
 use lib.Dec.{T, eqb}
 use Rattle.vmd_format.specs.Read.{lenient}
-use Rattle.vmd_format.specs.Computed.{computed, text, older-text, start, fours, u0, u1, bone-bytes, morph-bytes, camera-bytes, light-bytes, shadow-bytes, ik-bytes, morph-said, light-said, shadow-said, ik-said}
+use Rattle.vmd_format.specs.Computed.{computed, text, older-text, start, fours, u0, u1, bone-bytes, morph-bytes, camera-bytes, light-bytes, shadow-bytes, ik-bytes, morph-said, light-said, shadow-said, ik-said, every}
 use Rattle.vmd_keys.specs.Names.{bone-names-of, morph-names-of, keep-if, select, distinct}
 use Rattle.vmd_season.specs.Season.{SectionFigures, Season, no-section-figures, no-takes, TakeFigures, figures-of, records-of, largest-figure, totals-fit, take-fits, with-count, with-take, with-refused, taken-if, with-answer, with-file, season-from, season, mean-if, mean}
 use Rattle.vmd_season.specs.Differ.{names, names-and-interpolation, SameName, SameRecords, SameFrames, SameSections, all-stretches, DifferOnly, DifferEach, bone-without, camera-without, without-interpolation}
@@ -101,10 +101,6 @@ some = record { bones = 3; morphs = 4; cameras = 5; lights = 6; self-shadows = 7
 
 abbrev added : List ℕ
 added = 3 ∷ 4 ∷ 5 ∷ 6 ∷ 7 ∷ 0 ∷ 25 ∷ 2 ∷ 1 ∷ 1 ∷ []
-
-abbrev every : ℕ → (ℕ → Bool) → Bool
-every zero f = true
-every (suc n) f = f n && every n f
 
 -- each figure can reach 18,446,744,073,709,551,615 and cannot pass it: the one that the take adds nothing to stays there
 pub limits-told :

@@ -1,19 +1,19 @@
 -- Laws of name tables as names are added at the end: the distinct names, the index of each, the bytes and the ends.
 use Prim.Native.Nat.{ℕ, zero, suc, _+_, _-_, _*_, _≤_, _<_}
 use mathlib.Core.Path.{_≡_, refl, ap, sym, _∙_}
-use mathlib.Core.Bool.{Bool, true, false}
-use mathlib.Core.List.{List, [], _∷_, _++_, map, append-nil, append-assoc, map-append}
+use mathlib.Core.Bool.{false}
+use mathlib.Core.List.{List, [], _∷_, _++_, map, append-nil, map-append}
 use mathlib.Core.Logic.{_⊎_, inl, inr}
 use native.Mathlib.Nat.{zero-add, add-zero, suc-add}
 use native.Mathlib.Omega.{arith}
 use lib.ListN.{length, getD, length-append, length-map}
 use Rattle.vmd_format.specs.Read.{write-all}
-use Rattle.vmd_laws.specs.ReadLaws.{All}
+use Rattle.vmd_laws.specs.ReadLaws.{All, write-all-append}
 use Rattle.vmd_format.specs.Take.{same}
 use Rattle.vmd_format.specs.Parts.{upto}
 use Rattle.vmd_laws.specs.PartsLaws.{upto-length, upto-below, all-map}
 use Rattle.vmd_keys.specs.Names.{name-in, names-in, keep-if, select, distinct}
-use Rattle.vmd_count.specs.DistinctLaws.{same-refl, Names, equal, apart, names, all-select, Member, all-members, map-same, member-named, apart-from, all-distinct, Once, here, there, once-distinct}
+use Rattle.vmd_count.specs.DistinctLaws.{same-refl, Names, equal, apart, names, all-select, Member, all-members, map-same, member-named, apart-from, all-distinct, Once, here, there, once-distinct, select-append, select-none}
 use Rattle.vmd_tables.specs.Tables.{joined, ends-from, table-of-names, index-if, index-of, name-table, name-indices}
 
 -- a name that is not among some
@@ -27,24 +27,10 @@ unfoldable pub added : List (List ℕ) → List (List ℕ) → List (List ℕ)
 added [] m = distinct m
 added (n ∷ l) m = select (apart-from n) (added l m)
 
-select-append : (f : List ℕ → Bool) (l m : List (List ℕ)) → select f (l ++ m) ≡ select f l ++ select f m
-unfolding select keep-if
-select-append f [] m = refl
-select-append f (a ∷ l) m = rw (select-append f l m) (go (f a))
-  where
-    go : (x : Bool) → keep-if x a (select f l ++ select f m) ≡ keep-if x a (select f l) ++ select f m
-    go true = refl
-    go false = refl
-
 pub distinct-append : (l m : List (List ℕ)) → distinct (l ++ m) ≡ distinct l ++ added l m
 unfolding distinct added
 distinct-append [] m = refl
 distinct-append (n ∷ l) m = rw (distinct-append l m, select-append (apart-from n) (distinct l) (added l m))
-
-select-none : (f : List ℕ → Bool) (l : List (List ℕ)) → All (λ a. f a ≡ false) l → select f l ≡ []
-unfolding select keep-if
-select-none f [] h = refl
-select-none f (a ∷ l) h = rw (h .0, select-none f l (h .1))
 
 all-added : (P : List ℕ → Type 0) (l m : List (List ℕ)) → All P m → All P (added l m)
 unfolding added
@@ -133,14 +119,9 @@ indices-new l a h =
 
 -- ---- the bytes and the ends
 
-pub write-append : {A : Type 0} (w : A → List ℕ) (l m : List A) → write-all w (l ++ m) ≡ write-all w l ++ write-all w m
-unfolding write-all
-write-append w [] m = refl
-write-append w (a ∷ l) m = rw (write-append w l m, append-assoc)
-
 joined-append : (l m : List (List ℕ)) → joined (l ++ m) ≡ joined l ++ joined m
 unfolding joined
-joined-append = write-append (λ n. n)
+joined-append = write-all-append (λ n. n)
 
 pub joined-one : (a : List ℕ) → joined (a ∷ []) ≡ a
 unfolding joined write-all

@@ -1,6 +1,7 @@
 // A name table out of a section: the distinct names of its records in order of first appearance, and each record's index. The
 // index column and a second one of the same length serve as work space. Internal: callers see to the lengths.
 use vmd_count::VmdNames;
+use vmd_keys::NAME_WIDTH;
 ghost use mathlib.Core.Path.{_≡_};
 ghost use Prim.Native.Nat.{_+_, _-_, _*_, _≤_, _<_};
 ghost use lib.ListN.{length, getD};
@@ -10,9 +11,6 @@ ghost use Rattle.vmd_keys.specs.Keys.{Rows, key, rank};
 ghost use Rattle.vmd_keys.specs.Heap.{Ascending};
 ghost use Rattle.vmd_tables.specs.Tables.{name-table};
 ghost use Rattle.vmd_tables.specs.Leading.{Leads, Lists, First, Beyond, Numbered, Step, Fits, Leader};
-
-// The field of a name.
-const NAME_WIDTH: usize = 15;
 
 // Puts into `leads`, for each record, an earlier one of its name that is at hand, or itself, and lists those that lead
 // themselves, in file order. The result is how many are listed.

@@ -9,9 +9,8 @@ use lib.Seq.{take-at, drop-at, getD-drop, getD-take}
 use Rattle.vmd_format.specs.Layout.{Layout}
 use Rattle.vmd_laws.specs.LayoutLaws.{Lawful}
 use Rattle.vmd_format.specs.Read.{got, Reader, bind, Codec, table, write-all}
-use Rattle.vmd_laws.specs.ReadLaws.{All, all-append, CodecLaws}
+use Rattle.vmd_laws.specs.ReadLaws.{All, all-append, CodecLaws, write-all-append}
 use Rattle.vmd_laws.specs.SizedLaws.{Sized}
-use Rattle.vmd_tables.specs.TableLaws.{write-append}
 use Rattle.vmd_format.specs.Parts.{records-of, at-end, until-end, upto}
 
 -- ---- a fact of each
@@ -70,7 +69,7 @@ module _ {A : Type 0} (w : A → List ℕ) (n : ℕ) where
   unfolding write-all
   part-there l a m h =
       rw (
-        write-append w l (a ∷ m),
+        write-all-append w l (a ∷ m),
         drop-at (write-all w l) (w a ++ write-all w m) (n * length l) (write-length l (all-front Wide l (a ∷ m) h)),
         take-at (w a) (write-all w m) n (all-back Wide l (a ∷ m) h .0),
       )

@@ -2,7 +2,7 @@
 -- and building from the parts.
 use Prim.Native.Nat.{ℕ, zero, suc, _+_, _-_}
 use mathlib.Core.Path.{_≡_, refl}
-use mathlib.Core.Bool.{Bool, true, false, _&&_}
+use mathlib.Core.Bool.{Bool, true, false}
 use mathlib.Core.List.{List, [], _∷_, _++_}
 use lib.ListN.{replicate}
 use lib.Dec.{T, eqb}
@@ -11,7 +11,7 @@ use Rattle.vmd_format.specs.Read.{lenient}
 use Rattle.vmd_format.specs.Take.{read-take}
 use Rattle.vmd_format.specs.Join.{export-file}
 use Rattle.vmd_format.specs.Parts.{Parts, build}
-use Rattle.vmd_format.specs.Computed.{computed, declines, start, fours, u1, bone-bytes, morph-bytes, camera-bytes, light-bytes, shadow-bytes, ik-bytes}
+use Rattle.vmd_format.specs.Computed.{computed, declines, start, fours, u1, bone-bytes, morph-bytes, camera-bytes, light-bytes, shadow-bytes, ik-bytes, every}
 use Rattle.vmd_keys.specs.Names.{keep-if, select, distinct, bone-names-of, morph-names-of}
 use Rattle.vmd_tables.specs.Tables.{joined, ends-from, table-of-names, index-if, index-of, name-table, name-indices}
 use Rattle.vmd_take_parts.specs.Split.{translation, rotation, parts-of-take, table-within, table-fits, bones-fit, morphs-fit, records-fit, parts-fit, split, TableSizes, table-sizes, split-answer, parts-left, buffers, split-sizes}
@@ -73,11 +73,6 @@ less-if false n = n
 
 abbrev shorter : ℕ → Parts
 shorter j = sevens (λ i n. less-if (eqb i j) n)
-
--- every k below n
-abbrev every : ℕ → (ℕ → Bool) → Bool
-every zero f = true
-every (suc n) f = f n && every n f
 
 -- three bone names of two bytes, and one morph name of one
 abbrev sizes : TableSizes

@@ -8,7 +8,7 @@ use vmd_records::VmdKind;
 use vmd_scan::ScanAnswer;
 use vmd_scan::VmdSections;
 ghost use mathlib.Core.Path.{_≡_};
-ghost use Prim.Native.Nat.{_+_, _≤_, max};
+ghost use Prim.Native.Nat.{_≤_, max};
 ghost use lib.Dec.{leb};
 ghost use lib.ListN.{length};
 ghost use Rattle.vmd_format.specs.Answer.{map-answer, left};
@@ -21,7 +21,7 @@ ghost use Rattle.vmd_output.specs.Meaning.{written-answer};
 ghost use Rattle.vmd_scan.specs.Meaning.{scan-is};
 ghost use Rattle.vmd_bytes.specs.Written.{Room, Wrote};
 ghost use Rattle.vmd_tables.specs.Leading.{Beyond};
-ghost use Rattle.vmd_tidy.specs.Tidied.{tidied-file, fitting, report, tidying, cleared, tidied-answer, tidied-output, tidied-scratch, size-answer, size-scratch, longest};
+ghost use Rattle.vmd_tidy.specs.Tidied.{tidied-file, fitting, report, cleared, tidied-answer, tidied-output, tidied-scratch, size-answer, size-scratch, longest};
 ghost use Rattle.vmd_tidy.specs.Meaning.{counts-are, tidy-answer};
 ghost use Rattle.vmd_tidy.specs.Stages.{is-given, size-given, largest-count, tidied-at, front-bytes, back-bytes, Front, Back, Fewer, Whole, counts-at};
 

@@ -6,13 +6,13 @@ use native.Mathlib.Numerals.{add-one}
 use native.Mathlib.Omega.{arith}
 use lib.ListN.{length, getD, take, drop, length-drop, take-append-drop}
 use lib.Seq.{take-suc, drop-cons, drop-drop, drop-length, getD-drop}
+use Rattle.vmd_laws.specs.ReadLaws.{write-all-append}
 use Rattle.vmd_format.specs.Layout.{Layout}
 use Rattle.vmd_format.specs.Read.{table, write-all}
 use Rattle.vmd_format.specs.Take.{property}
 use Rattle.vmd_laws.specs.PlacesLaws.{property-in, frames-in}
 use Rattle.vmd_bytes.specs.Written.{Room, Wrote, Rest}
 use Rattle.vmd_bytes.proofs.Writes.{rest-all, rest-room, rest-then, none-left}
-use Rattle.vmd_tables.specs.TableLaws.{write-append}
 use Rattle.vmd_sort.specs.Walk.{step, places-by, end-by}
 use Rattle.vmd_tidy_sections.specs.Sections.{placed}
 use Rattle.vmd_sort.specs.WalkLaws.{step-fixed, places-snoc, end-snoc}
@@ -57,7 +57,7 @@ module _ (f : ℕ → List ℕ) (l out₀ : List ℕ) (to : ℕ) where
     split =
         let e : drop i l ≡ take n (drop i l) ++ drop (i + n) l = sym (ap (λ r. take n (drop i l) ++ r) (sym (drop-drop n i l)) ∙ take-append-drop n (drop i l)) in
         let d : write-all f (drop i l) ≡ bytes ++ write-all f (drop (i + n) l) =
-        ap (write-all f) e ∙ write-append f (take n (drop i l)) (drop (i + n) l) ∙ ap (λ r. r ++ write-all f (drop (i + n) l)) (sym are) in
+        ap (write-all f) e ∙ write-all-append f (take n (drop i l)) (drop (i + n) l) ∙ ap (λ r. r ++ write-all f (drop (i + n) l)) (sym are) in
         rw d at (w .rest)
 
     pub run-room : Room out q bytes

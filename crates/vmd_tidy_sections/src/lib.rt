@@ -11,7 +11,7 @@ use vmd_records::VmdParsedSelfShadowFrame;
 use vmd_sort::VmdOrder;
 ghost use mathlib.Core.Path.{_≡_};
 ghost use mathlib.Core.List.{_++_};
-ghost use Prim.Native.Nat.{ℕ, _+_, _*_, _≤_, _<_};
+ghost use Prim.Native.Nat.{ℕ, _+_, _≤_, _<_};
 ghost use lib.ListN.{length, getD, take, drop, replicate};
 ghost use Rattle.vmd_format.specs.Read.{fixed, write-all, write-counted};
 ghost use Rattle.vmd_laws.specs.ReadLaws.{All};

@@ -10,9 +10,9 @@ use lib.Dec.{eqb}
 use Rattle.vmd_laws.specs.ReadLaws.{All}
 use Rattle.vmd_format.specs.Take.{same}
 use Rattle.vmd_keys.specs.Names.{keep-if, select, distinct}
-use Rattle.vmd_count.specs.DistinctLaws.{same-refl, Names, equal, apart, names, all-select, select-passed}
+use Rattle.vmd_count.specs.DistinctLaws.{same-refl, Names, equal, apart, names, all-select, select-passed, select-none}
 use Rattle.vmd_tracks.specs.Tracks.{put, put-all, lasts, track, lay, tidy-section, any, same-slot, dropped}
-use Rattle.vmd_tracks.specs.TrackLaws.{same-sym, never, Test, passed, failed, test, all-map, select-none, select-weaker, put-over, put-comm, put-past, all-put-all, put-lt, put-gt, Order, before, level, after, order}
+use Rattle.vmd_tracks.specs.TrackLaws.{same-sym, never, Test, passed, failed, test, all-map, select-weaker, put-over, put-comm, put-past, all-put-all, put-lt, put-gt, Order, before, level, after, order}
 
 module _ {A : Type 0} where
   any-none : (f : A → Bool) (l : List A) → any f l ≡ false → All (λ a. f a ≡ false) l

@@ -19,7 +19,7 @@ use Rattle.vmd_laws.specs.PartsLaws.{all-at, next-passes, need-passes, each-pas
 use Rattle.vmd_bytes.specs.Slices.{splice, run}
 use Rattle.vmd_bytes.specs.Words.{digits, repeated}
 use Rattle.vmd_bytes.proofs.Laws.{splice-append-at, splice-over-end, length-run, take-run, drop-run, length-u32-bytes}
-use Rattle.vmd_bytes.proofs.Words.{length-digits}
+use Rattle.vmd_bytes.proofs.Words.{length-digits, digits-block}
 use Rattle.vmd_check_tables.specs.Meaning.{table-of}
 use Rattle.vmd_check_tables.proofs.Tables.{table-between, table-name-there}
 
@@ -43,13 +43,6 @@ tested-at zero k h t = absurd (omega arith)
 tested-at (suc n) k h t =
     let p = and-eq-true-iff (tested n) (eqb (mask n) (repeated 255 n)) .0 t in
     ⊎-elim (λ (q : k ≡ n). rw q (eqb-true (mask n) (repeated 255 n) (p .1))) (λ (m : k < n). tested-at n k m (p .0)) (eq-or-lt-of-le (le-of-suc-le-suc h))
-
-digits-block : (n a b : ℕ) → b < 256 → digits (suc n) (a * 256 + b) ≡ b ∷ digits n a
-unfolding digits
-digits-block n a b h =
-    let q : (a * 256 + b) / 256 ≡ a = omega arith in
-    let r : (a * 256 + b) % 256 ≡ b = omega arith in
-    rw (q, r)
 
 digits-none : (m : ℕ) → digits m 0 ≡ padded m []
 unfolding digits padded
