@@ -1,5 +1,5 @@
 -- The parts that the calls for names and interpolation bytes give lie in the file, and are those bytes: vmd_places shows it of
--- each part (proofs/Fields, field-cuts and ik-name-cuts) and vmd_scan of the model name (proofs/Laws, model-cuts).
+-- each part (proofs/Fields, field-cuts and ik-name-cuts) and vmd_header of the model name (proofs/Laws, model-cuts).
 use Prim.Native.Nat.{ℕ}
 use mathlib.Core.List.{List, [], _∷_}
 use lib.ListN.{length, getD, drop}
