@@ -41,7 +41,7 @@ enum vmd_refusal {
     VMD_OUTSIDE = 4,             /* record or IK number at or above the count, or its place outside the file */
     VMD_PARTS_NOT_WHOLE = 5,     /* name table ends wrong, records not whole, properties cut or with bytes over */
     VMD_NAME_UNFIT = 6,          /* model name over 20 bytes, table name over 15, or a zero byte in one */
-    VMD_NAME_NOT_GOOD = 7,       /* name bytes not good Shift_JIS */
+    VMD_NAME_NOT_GOOD = 7,       /* name bytes not good Shift_JIS: one that starts nothing, or a pair without a character */
     VMD_NOT_FINITE = 8,          /* camera, light, bone or morph float not finite */
     VMD_SELF_SHADOW_UNFIT = 9,   /* self-shadow distance not finite, or mode above 2 */
     VMD_COLUMNS_DISAGREE = 10,   /* bone or morph column lengths disagree */
@@ -254,6 +254,10 @@ uint32_t vmd_tidy_animation(const uint8_t *file, size_t file_len, uint64_t *scra
  * The place of a name's first byte, read left to right, that starts neither a good single byte nor a good pair; the length
  * where all is good. Of a pair that is not good it is the first byte's place. The builder answers 7 for a name whose place is
  * below its length, where nothing that it tests before is turned down.
+ *
+ * Good single bytes are 0x00 to 0x80 and 0xA1 to 0xDF. A pair is a lead, 0x81 to 0x9F or 0xE0 to 0xFC, and a trail, 0x40 to
+ * 0x7E or 0x80 to 0xFC. It is good where WHATWG's Shift_JIS decoder finds a character: its pointer is in the jis0208 index or
+ * lies in 8836 to 10715; 0x85 0x40 is not. A byte order mark in front of a name is judged as any other bytes.
  */
 size_t vmd_first_fault(const uint8_t *name, size_t name_len);
 

@@ -1,7 +1,7 @@
 #!/usr/bin/env bash
 # Builds the original Rust, unchanged, and a program that runs it, into target/oracle.
 #
-#   oracle/build.sh compare|samples [SOURCES]
+#   oracle/build.sh compare|index|samples [SOURCES]
 #
 # SOURCES is the folder with the original's files (crates/mmd-anim-format/.., crates/mmd-anim-runtime/..), by default
 # ../shared/docs/src beside the repository. Missing Debian packages are installed with apt-get. The program that compares
@@ -52,11 +52,11 @@ find_library() {
 
 case $what in
     compare) package=comparison ;;
-    samples) package=oracle ;;
-    *) fail "compare or samples?" ;;
+    index | samples) package=oracle ;;
+    *) fail "compare, index or samples?" ;;
 esac
 install_missing
 lay_out
-[ "$what" = samples ] || find_library
+[ "$what" != compare ] || find_library
 cd "$workspace"
 CARGO_TARGET_DIR=$root/target/oracle/build cargo build --offline --release --quiet --package "$package"

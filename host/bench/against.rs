@@ -61,19 +61,21 @@ fn compared(times: &[[f64; 2]]) -> (f64, String) {
 pub fn table(calls: &[Call], size: usize, batch: u32, builds: [&str; 2]) {
     println!("\n## Against another build\n");
     println!(
-        "Takes of {}, names of 4 to 10 bytes, buffers just touched. The time by this build as a multiple of the other's in the \
+        "Takes of {}, buffers just touched, names of 4 to 10 letters; building again with names of pairs. The time by this build as a multiple of the other's in the \
          same round: the median of {ROUNDS} rounds, and between which values half of them lie.",
         shown(size)
     );
-    head(["take", "call", "this / other", "half of the rounds", "at most 1.05"]);
+    head(["take", "names", "call", "this / other", "half of the rounds", "at most 1.05"]);
     let builds = builds.map(load);
     for kind in Kind::ALL {
-        let material = Material::new(kind, Names::Padded, size);
-        let mut out = material.output();
-        for &call in calls {
-            let (ratio, half) = compared(&times(call, &material, &mut out, builds, batch));
-            let met = if ratio <= 1.05 { "met" } else { "MISSED" };
-            row([kind.name().into(), call.name().into(), format!("{ratio:.3}"), half, met.into()]);
+        for names in [Names::Padded, Names::Pairs] {
+            let material = Material::new(kind, names, size);
+            let mut out = material.output();
+            for &call in calls.iter().filter(|&&call| names == Names::Padded || call == Call::Build) {
+                let (ratio, half) = compared(&times(call, &material, &mut out, builds, batch));
+                let met = if ratio <= 1.05 { "met" } else { "MISSED" };
+                row([kind.name().into(), names.name().into(), call.name().into(), format!("{ratio:.3}"), half, met.into()]);
+            }
         }
     }
 }

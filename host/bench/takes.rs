@@ -46,9 +46,12 @@ pub enum Names {
     Full,
     Padded,
     Garbage,
+    /// Pairs of a lead and a trail, whose characters the builder looks up.
+    Pairs,
 }
 
 impl Names {
+    /// Those that copying and saving may tell apart.
     pub const ALL: [Names; 4] = [Names::Short, Names::Full, Names::Padded, Names::Garbage];
 
     pub fn name(self) -> &'static str {
@@ -57,6 +60,7 @@ impl Names {
             Names::Full => "15 bytes",
             Names::Padded => "4 to 10 bytes, zeros",
             Names::Garbage => "4 to 10 bytes, a zero, garbage",
+            Names::Pairs => "2 to 5 pairs",
         }
     }
 
@@ -65,12 +69,18 @@ impl Names {
             Names::Short => 2,
             Names::Full => 15,
             Names::Padded | Names::Garbage => 4 + n % 7,
+            Names::Pairs => 2 * (2 + n % 4),
         }
     }
 
     /// Name `n` of a table.
     pub fn bytes(self, n: usize) -> Vec<u8> {
-        (0..self.len(n)).map(|k| b'A' + ((n >> (2 * k)) % 26) as u8).collect()
+        let byte = |k| match self {
+            Names::Pairs if k % 2 == 0 => 0x83,
+            Names::Pairs => 0x40 + ((n >> k) % 63) as u8, // a katakana
+            _ => b'A' + ((n >> (2 * k)) % 26) as u8,
+        };
+        (0..self.len(n)).map(byte).collect()
     }
 
     /// Its field in a file.

@@ -322,12 +322,13 @@ pub fn tidy(file: &[u8], scratch: &mut [u64]) -> Result<Tidied, Error> {
 }
 
 /// The place of a name's first byte, read left to right, that starts neither a good single byte nor a good pair of Shift_JIS;
-/// the length where all is good. A name whose place is below its length is one that [`Parts::build`](crate::Parts::build)
-/// answers 7 for, where nothing that it tests before is turned down.
+/// the length where all is good. A pair is good where it has a character. A name whose place is below its length is one that
+/// [`Parts::build`](crate::Parts::build) answers 7 for, where nothing that it tests before is turned down.
 ///
 /// ```
 /// assert_eq!(vmd::first_fault(b"arm"), 3);
 /// assert_eq!(vmd::first_fault(b"\x83\x41\x83\x7F"), 2); // a good pair, and a lead without its trail
+/// assert_eq!(vmd::first_fault(b"\x83\x41\x85\x40"), 2); // a good pair, and one without a character
 /// ```
 pub fn first_fault(name: &[u8]) -> usize {
     // SAFETY: a slice.

@@ -63,7 +63,7 @@ refusals! {
     PartsNotWhole = 5, "a name table, the record bytes or the property frames are not whole";
     /// A model name over 20 bytes, a table name over 15, or a zero byte in one.
     NameUnfit = 6, "a name is too long or has a zero byte";
-    /// Name bytes that are not good Shift_JIS.
+    /// Name bytes that are not good Shift_JIS: a byte that starts nothing, or a pair without a character.
     NameNotGood = 7, "a name's bytes are not good Shift_JIS";
     /// A camera, light, bone or morph float that is not finite.
     NotFinite = 8, "a float of a camera, light, bone or morph is not finite";

@@ -389,8 +389,8 @@ impl<'a> Take<'a> {
     }
 
     /// What the take would be built from. Where the builder takes these parts, the file it gives is the take's
-    /// [`export`]; it does not take names that are not good Shift_JIS, floats that are not finite, and self-shadow modes
-    /// above 2, which a file may have.
+    /// [`export`]; it does not take names that are not good Shift_JIS ([`first_fault`](crate::first_fault)), floats that are
+    /// not finite, and self-shadow modes above 2, which a file may have.
     ///
     /// Refused with [`PartsDoNotFit`](crate::Refusal::PartsDoNotFit) where the names of a table pass 4,294,967,295 bytes.
     pub fn parts(&self) -> Result<OwnedParts, Error> {

@@ -500,6 +500,73 @@ fn the_first_fault_of_a_name() {
     }
 }
 
+/// One name in each place where the builder judges names: the model's, a bone's, a morph's, an IK state's.
+fn named_parts(name: &[u8]) -> [OwnedParts; 4] {
+    let table = NameTable::new([&b"arm"[..], name]);
+    let mut property_frame = vec![0, 0, 0, 0, 1, 1, 0, 0, 0];
+    property_frame.extend(name);
+    property_frame.resize(9 + 21, 0);
+    let (bytes, ends) = (&table.bytes, &table.ends);
+    [
+        OwnedParts { model_name: name.to_vec(), ..Default::default() },
+        OwnedParts { bone_name_bytes: bytes.clone(), bone_name_ends: ends.clone(), ..Default::default() },
+        OwnedParts { morph_name_bytes: bytes.clone(), morph_name_ends: ends.clone(), ..Default::default() },
+        OwnedParts { property_frames: property_frame, ..Default::default() },
+    ]
+}
+
+/// A pair needs a character: its pointer is in the index or lies in 8836 to 10715.
+#[test]
+fn pairs_with_a_character_and_without() {
+    let places: [(&[u8], usize); 14] = [
+        (b"\x83\x41", 2),
+        (b"\x85\x40", 0),
+        (b"A\x85\x40", 1),
+        (b"\x83\x41\x85\x40", 2),
+        (b"\x81\xAD", 0), // pointer 108
+        (b"\x81\xB8", 2), // 119
+        (b"\xEF\xFC", 0), // 8835
+        (b"\xF0\x40", 2), // 8836
+        (b"\xF9\xFC", 2), // 10715
+        (b"\xFA\x40", 2), // 10716, in the index
+        (b"\xFC\x4B", 2), // 11103, the last
+        (b"\xFC\x4C", 0),
+        (b"\xEF\xBB\xBF", 0), // a byte order mark is judged as any other name
+        (b"\xEF\xBB\xBFarm", 0),
+    ];
+    for (name, place) in places {
+        assert_eq!(vmd::first_fault(name), place, "{name:?}");
+        for parts in named_parts(name) {
+            let (parts, size) = (parts.as_parts(), if parts.property_frames.is_empty() { 74 } else { 74 + 9 + 21 });
+            let mut out = vec![0xA5; size];
+            if place == name.len() {
+                assert_eq!(parts.size(), Ok(size as u64), "{name:?}");
+                assert_eq!(parts.build_into(&mut out), Ok(size));
+                assert_eq!((parts.build().unwrap(), vmd::export(&out).unwrap()), (out.clone(), out));
+            } else {
+                assert_eq!(parts.size(), Err(Refusal::NameNotGood), "{name:?}");
+                assert_eq!(parts.build_into(&mut out), Err(Refusal::NameNotGood));
+                assert_eq!(parts.build(), Err(Refusal::NameNotGood.into()));
+                assert_eq!(out, vec![0xA5; size], "the output is left as it was");
+            }
+        }
+    }
+}
+
+/// Names that the builder turns down are read, saved and joined as before.
+#[test]
+fn pairs_without_a_character_in_a_file() {
+    let file = vmd::export(&morphs(&[b"\x85\x40", b"\x83\x41"])).unwrap();
+    let take = Take::open(&file).unwrap();
+    assert_eq!(take.morph(0).unwrap().name, b"\x85\x40");
+    assert_eq!(vmd::export(&file).unwrap(), file);
+    assert_eq!(Take::open(vmd::join(&file, &file).unwrap()).unwrap().morph(2).unwrap().name, b"\x85\x40");
+    let mut parts = take.parts().unwrap();
+    assert_eq!(parts.build(), Err(Refusal::NameNotGood.into()));
+    parts.morph_name_bytes[0] = 0x83;
+    assert!(parts.build().is_ok());
+}
+
 // ---- smallest and largest frame
 
 /// The smallest frame, and the largest.

@@ -180,7 +180,7 @@ static void try_built(const struct parts *parts, const struct bytes *expected)
 static const char *const bone_names[MOST_NAMES] = {
     "center", "\x83\x41\xB1", "\x80\xA1\xDF\x9F\xFC\xE0\x40 is full", "unused"
 };
-static const char *const morph_names[3] = {"", "smile", "\xFC\x7E\x81\x80"};
+static const char *const morph_names[3] = {"", "smile", "\xFC\x4B\x81\x80"};
 static const uint32_t bone_indices[N_BONES] = {1, 0, 2, 0}, morph_indices[N_MORPHS] = {2, 0, 1};
 
 static struct take good_take(void)
@@ -539,6 +539,23 @@ static void name_ends_in_lead(struct parts *p, int which, int k, uint32_t byte)
         n->at[n->len - 2] = 'A'; /* no lead that it could be the trail of */
 }
 
+/* A pair without a character. */
+static void name_with_bare_pair(struct parts *p, int which, int k, uint32_t value)
+{
+    struct part_name *n = name(p, which, k);
+    (void)value;
+    if (n->len < 2)
+        n->len = 2;
+    memcpy(n->at, "\x85\x40", 2);
+}
+
+static void ik_name_with_bare_pair(struct parts *p, int which, int place, uint32_t value)
+{
+    (void)which;
+    (void)value;
+    memcpy(p->properties.at + place, "\x85\x40", 2);
+}
+
 static void record_word(struct parts *p, int section, int place, uint32_t value)
 {
     store(records(p, section)->at + place, value);
@@ -594,6 +611,7 @@ static void faults_of_names(int which, int k, uint32_t width, const char *what)
     fault(6, ++things, name_with_zero, which, k, 0, "%s %d with a zero byte", what, k);
     fault(7, ++things, name_not_good, which, k, 0xA0, "%s %d not good", what, k);
     fault(7, ++things, name_ends_in_lead, which, k, 0x83, "%s %d ends in a lead byte", what, k);
+    fault(7, ++things, name_with_bare_pair, which, k, 0, "%s %d with a pair without a character", what, k);
 }
 
 /* Every float of every record of a section. */
@@ -701,6 +719,8 @@ static void make_faults(void)
     for (i = 0; i < N_STATES; i++)
         fault(7, ++things, record_byte, VMD_PROPERTIES, states[i], 0xFD, "IK name %d not good", i);
     fault(7, ++things, record_byte, VMD_PROPERTIES, states[1] + 19, 0x83, "IK name 1 ends in a lead byte");
+    for (i = 0; i < N_STATES; i++)
+        fault(7, ++things, ik_name_with_bare_pair, 0, states[i], 0, "IK name %d with a pair without a character", i);
     faults_of_columns();
     for (i = 0; i < N_BONES; i++) {
         faults_of_index(0, i, MOST_NAMES, "bone");
@@ -787,13 +807,41 @@ static int is_trail(unsigned b)
     return (b >= 0x40 && b <= 0x7E) || (b >= 0x80 && b <= 0xFC);
 }
 
+/*
+ * The pairs that have a character, by their bytes: leads from .. to, and trails from .. to, 0x7F left out. They are those of
+ * Python 3.11's codec cp932; CP932 of glibc 2.36's iconv has the same.
+ */
+static const struct {
+    uint8_t lead, last_lead, trail, last_trail;
+} characters[] = {
+    {0x81, 0x81, 0x40, 0xAC}, {0x81, 0x81, 0xB8, 0xBF}, {0x81, 0x81, 0xC8, 0xCE}, {0x81, 0x81, 0xDA, 0xE8},
+    {0x81, 0x81, 0xF0, 0xF7}, {0x81, 0x81, 0xFC, 0xFC}, {0x82, 0x82, 0x4F, 0x58}, {0x82, 0x82, 0x60, 0x79},
+    {0x82, 0x82, 0x81, 0x9A}, {0x82, 0x82, 0x9F, 0xF1}, {0x83, 0x83, 0x40, 0x96}, {0x83, 0x83, 0x9F, 0xB6},
+    {0x83, 0x83, 0xBF, 0xD6}, {0x84, 0x84, 0x40, 0x60}, {0x84, 0x84, 0x70, 0x91}, {0x84, 0x84, 0x9F, 0xBE},
+    {0x87, 0x87, 0x40, 0x5D}, {0x87, 0x87, 0x5F, 0x75}, {0x87, 0x87, 0x7E, 0x9C}, {0x88, 0x88, 0x9F, 0xFC},
+    {0x89, 0x97, 0x40, 0xFC}, {0x98, 0x98, 0x40, 0x72}, {0x98, 0x98, 0x9F, 0xFC}, {0x99, 0x9F, 0x40, 0xFC},
+    {0xE0, 0xE9, 0x40, 0xFC}, {0xEA, 0xEA, 0x40, 0xA4}, {0xED, 0xED, 0x40, 0xFC}, {0xEE, 0xEE, 0x40, 0xEC},
+    {0xEE, 0xEE, 0xEF, 0xFC}, {0xF0, 0xFB, 0x40, 0xFC}, {0xFC, 0xFC, 0x40, 0x4B},
+};
+
+static int is_pair(unsigned lead, unsigned trail)
+{
+    size_t k;
+    if (is_lead(lead) && is_trail(trail))
+        for (k = 0; k < sizeof characters / sizeof *characters; k++)
+            if (lead >= characters[k].lead && lead <= characters[k].last_lead && trail >= characters[k].trail
+                && trail <= characters[k].last_trail)
+                return 1;
+    return 0;
+}
+
 static size_t expected_fault(const uint8_t *name, size_t len)
 {
     size_t i = 0;
     while (i < len) {
         if (is_single(name[i]))
             i += 1;
-        else if (is_lead(name[i]) && i + 1 < len && is_trail(name[i + 1]))
+        else if (i + 1 < len && is_pair(name[i], name[i + 1]))
             i += 2;
         else
             break;
@@ -801,18 +849,41 @@ static size_t expected_fault(const uint8_t *name, size_t len)
     return i;
 }
 
-/* The place of the first fault, and what the builder says of it as a model name. */
-static void try_name(const uint8_t *bytes, size_t len)
+/* What the builder says of a name as the model's, and as the only one of a table (which: MODEL, BONE_NAMES, MORPH_NAMES). */
+static void try_name_as(int which, const uint8_t *bytes, size_t len)
 {
     struct parts p = no_parts();
-    size_t place = expected_fault(bytes, len);
-    uint8_t *n = lend(&lent_out, bytes, len);
-    int zero = len > 0 && memchr(bytes, 0, len) != NULL;
-    expect_number("first_fault", vmd_first_fault(n, len), place);
+    struct part_name *n = name(&p, which, 0);
+    int unfit = len > (which == MODEL ? 20 : 15) || (len > 0 && memchr(bytes, 0, len) != NULL);
+    if (which != MODEL)
+        table(&p, which)->n = 1;
+    n->len = len;
+    memcpy(n->at, bytes, len);
+    size_of(&p, unfit ? VMD_NAME_UNFIT : expected_fault(bytes, len) < len ? VMD_NAME_NOT_GOOD : VMD_OK, 74);
+}
+
+/* What it says of one as an IK state's, which ends before its first zero byte. */
+static void try_ik_name(const uint8_t *bytes, size_t len)
+{
+    static const uint8_t frame[9] = {0, 0, 0, 0, 1, 1, 0, 0, 0}, zeros[21];
+    struct parts p = no_parts();
+    const uint8_t *zero = len > 0 ? memchr(bytes, 0, len) : NULL;
+    size_t n = zero != NULL ? (size_t)(zero - bytes) : len;
+    append_bytes(&p.properties, frame, 9);
+    append_bytes(&p.properties, bytes, len);
+    append_bytes(&p.properties, zeros, 21 - len);
+    size_of(&p, expected_fault(bytes, n) < n ? VMD_NAME_NOT_GOOD : VMD_OK, 74 + 9 + 21);
+}
+
+/* The place of the first fault, and what the builder says of the name wherever it can stand. */
+static void try_name(const uint8_t *bytes, size_t len)
+{
+    int which;
+    expect_number("first_fault", vmd_first_fault(lend(&lent_out, bytes, len), len), expected_fault(bytes, len));
     expect_lent("name", &lent_out, bytes, len);
-    p.model.len = len;
-    memcpy(p.model.at, bytes, len);
-    size_of(&p, zero || len > 20 ? VMD_NAME_UNFIT : place < len ? VMD_NAME_NOT_GOOD : VMD_OK, 74);
+    for (which = MODEL; which <= MORPH_NAMES; which++)
+        try_name_as(which, bytes, len);
+    try_ik_name(bytes, len);
 }
 
 static void names_told_in_words(void)
@@ -823,7 +894,7 @@ static void names_told_in_words(void)
     } rows[] = {
         {"", 0, 0}, {"\x83\x41", 2, 2}, {"\x83", 1, 0}, {"\x83\x7F", 2, 0}, {"\xA0", 1, 0}, {"A\xA0", 2, 1},
         {"\x80", 1, 1}, {"\xFD", 1, 0}, {"\x81\x40\x81", 3, 2}, {"\x81\x81\x40", 3, 3}, {"\xDF\xE0\xFC", 3, 3},
-        {"\xFC\xFD", 2, 0}, {"\x9F\x3F", 2, 0}, {"ab\x83\x41\xA0\xA0", 6, 4}, {"\xEF\xBB\xBF", 3, 3}, {"\xFE\xFF", 2, 0},
+        {"\xFC\xFD", 2, 0}, {"\x9F\x3F", 2, 0}, {"ab\x83\x41\xA0\xA0", 6, 4}, {"\xEF\xBB\xBF", 3, 0}, {"\xFE\xFF", 2, 0},
         {"123456789012345678\x83\x41", 20, 20}, {"1234567890123456789\x83", 20, 19},
     };
     size_t k;
@@ -836,12 +907,87 @@ static void names_told_in_words(void)
     expect_number("first_fault", vmd_first_fault(NULL, 0), 0);
 }
 
+/* A good set of parts in which one name is another, good or not: the model's, bone name 1, morph name 1 or IK name 1. */
+static void name_replaced(int place, const struct name *n, int good)
+{
+    struct take t = good_take();
+    struct parts p;
+    struct bytes expected;
+    size_t i;
+    if (place == 0)
+        t.model = *n;
+    for (i = 0; i < N_BONES && place == 1; i++)
+        if (bone_indices[i] == 1)
+            t.bones[i].name = *n;
+    for (i = 0; i < N_MORPHS && place == 2; i++)
+        if (morph_indices[i] == 1)
+            t.morphs[i].name = *n;
+    if (place == 3)
+        t.properties[0].states[1].name = *n;
+    p = parts_of(&t);
+    if (place == 1 || place == 2) {
+        struct part_name *in_table = &(place == 1 ? &p.bone_names : &p.morph_names)->names[1];
+        in_table->len = n->len;
+        memcpy(in_table->at, n->at, n->len);
+    }
+    encode(&expected, &t, CANONICAL);
+    if (good)
+        try_built(&p, &expected);
+    else
+        expect_refused(&p, VMD_NAME_NOT_GOOD, expected.len);
+}
+
+/* Pairs at the edges of what has a character, with their pointers, in every place where a name is judged. */
+static void pairs_told_in_words(void)
+{
+    static const char *const places[] = {"the model name", "a bone name", "a morph name", "an IK name"};
+    static const struct {
+        const char *name;
+        size_t place;
+    } rows[] = {
+        {"\x83\x41", 2}, {"\x85\x40", 0}, {"\x41\x85\x40", 1}, {"\x83\x41\x85\x40", 2}, {"\x85\x40\x83\x41", 0},
+        {"\x81\xAC", 2},     /* 107 */
+        {"\x81\xAD", 0},     /* 108 */
+        {"\x81\xB7", 0},     /* 118 */
+        {"\x81\xB8", 2},     /* 119 */
+        {"\x88\x9E", 0},     /* 1409 */
+        {"\x88\x9F", 2},     /* 1410, the first Kanji */
+        {"\x98\x72", 2},     /* 4374 */
+        {"\x98\x73", 0},     /* 4375 */
+        {"\xEF\xFC", 0},     /* 8835 */
+        {"\xF0\x40", 2},     /* 8836, where the range begins */
+        {"\xF9\xFC", 2},     /* 10715, where it ends */
+        {"\xFA\x40", 2},     /* 10716, in the index again */
+        {"\xFC\x4B", 2},     /* 11103, the last */
+        {"\xFC\x4C", 0},     /* 11104 */
+        {"\xFC\xFC", 0},     /* 11279, the last pair */
+        {"\xEF\xBB\xBF", 0}, /* a byte order mark is no exception here */
+    };
+    size_t k;
+    int place;
+    for (k = 0; k < sizeof rows / sizeof *rows; k++) {
+        struct name n = named(rows[k].name);
+        trial("pair %zu", k);
+        expect_number("first_fault", vmd_first_fault(n.at, n.len), rows[k].place);
+        try_name(n.at, n.len);
+        for (place = 0; place < 4; place++) {
+            trial("pair %zu in %s", k, places[place]);
+            name_replaced(place, &n, rows[k].place == n.len);
+        }
+    }
+}
+
 /* Every byte, and every two, alone and after others that shift what is a lead. */
 static void names_of_all_bytes(void)
 {
     static const char *const before[] = {"", "A", "\x83\x41", "\x83"};
     uint8_t n[4];
-    unsigned a, b, k;
+    unsigned a, b, k, with = 0;
+    for (a = 0; a < 256; a++)
+        for (b = 0; b < 256; b++)
+            with += (unsigned)is_pair(a, b);
+    trial("the test's own pairs");
+    expect_number("pairs with a character", with, 9604);
     for (a = 0; a < 256; a++) {
         n[0] = (uint8_t)a;
         trial("name of the byte 0x%02X", a);
@@ -872,7 +1018,7 @@ static void rest_of_a_name_unread(void)
     } rows[] = {
         {"\xA0\x40", 2, 0}, {"\xFD\xFD", 2, 0}, {"A\xFF\x40", 3, 1}, {"\x83\x7F", 2, 0}, {"\x83\x41\xA0\xA0", 4, 2},
         {"ab\x83\x41\xFC\xFD", 6, 4},
-        {"12345678\x81\x81\x81\x3F", 12, 10},
+        {"12345678\x81\x81\x81\x3F", 12, 10}, {"\x85\x40", 2, 0}, {"\x83\x41\xEF\xFC", 4, 2},
     };
     size_t k;
     for (k = 0; k < sizeof rows / sizeof *rows; k++) {
@@ -899,7 +1045,8 @@ static void parts_after_a_bad_name_unread(void)
         {7, MODEL, 0, 0xA0, {6, 0, 0, 0}},    {6, MODEL, 5, 0x00, {6, 0, 0, 0}},    {7, BONES, 0, 0xFD, {6, 6, 0, 0}},
         {6, BONES, 3, 0x00, {6, 6, 0, 0}},    {7, BONES, 5, 0x83, {6, 6, 0, 0}},    {7, BONES, 10, 0xA0, {6, 15, 0, 0}},
         {7, BONES, 18, 0xFC, {6, 19, 0, 0}},  {7, MORPHS, 0, 0xFF, {6, 19, 0, 5}},  {6, MORPHS, 9, 0x00, {6, 19, 0, 10}},
-        {7, MORPHS, 9, 0xE0, {6, 19, 0, 10}},
+        {7, MORPHS, 9, 0xE0, {6, 19, 0, 10}}, {7, MODEL, 0, 0x85, {6, 0, 0, 0}},    {7, BONES, 8, 0xEB, {6, 10, 0, 0}},
+        {7, MORPHS, 8, 0xFC, {6, 19, 0, 10}},
     };
     static const uint32_t bone_ends[] = {6, 10, 15, 19}, morph_ends[] = {5, 10};
     size_t row;
@@ -944,6 +1091,7 @@ int main(void)
     each_fault_with_a_later_one();
     index_without_names();
     names_told_in_words();
+    pairs_told_in_words();
     names_of_all_bytes();
     rest_of_a_name_unread();
     parts_after_a_bad_name_unread();

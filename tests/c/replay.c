@@ -21,7 +21,7 @@ static const struct {
     size_t strings;
     unsigned long cases;
 } kinds[KINDS] = {
-    {"", 0, 0}, {"opened", 1, 1279}, {"exported", 1, 974}, {"joined", 2, 339}, {"built", SLICES, 391}, {"converted", 1, 290},
+    {"", 0, 0}, {"opened", 1, 1279}, {"exported", 1, 974}, {"joined", 2, 339}, {"built", SLICES, 423}, {"converted", 1, 290},
 };
 
 /* The bytes of an element in each string of a build. */

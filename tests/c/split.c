@@ -397,10 +397,11 @@ static void builds(void)
     build_back(&file, &expected, VMD_OK, &canonical);
 
     /* what a file may have and the builder does not take: every kind of name, of float, and the mode */
-    for (k = 0; k < 10; k++) {
-        static const uint32_t numbers[10] = {
+    for (k = 0; k < 14; k++) {
+        static const uint32_t numbers[14] = {
             VMD_NAME_NOT_GOOD, VMD_NOT_FINITE, VMD_NOT_FINITE, VMD_SELF_SHADOW_UNFIT, VMD_NAME_NOT_GOOD,
-            VMD_NAME_NOT_GOOD, VMD_NOT_FINITE, VMD_NOT_FINITE, VMD_SELF_SHADOW_UNFIT, VMD_NAME_NOT_GOOD
+            VMD_NAME_NOT_GOOD, VMD_NOT_FINITE, VMD_NOT_FINITE, VMD_SELF_SHADOW_UNFIT, VMD_NAME_NOT_GOOD,
+            VMD_NAME_NOT_GOOD, VMD_NAME_NOT_GOOD, VMD_NAME_NOT_GOOD, VMD_NAME_NOT_GOOD
         };
         t = good_take();
         switch (k) {
@@ -414,6 +415,10 @@ static void builds(void)
         case 7: t.lights[3].floats[5] = 0xFF800000; break;
         case 8: t.self_shadows[5].distance = 0x7F800001; break;
         case 9: t.properties[7].states[2].name = named("\x83\x7F"); break;
+        case 10: t.model = named("\x85\x40"); break; /* a pair without a character, here and below */
+        case 11: t.bones[9].name = named("A\x81\xAD"); break;
+        case 12: t.morphs[8].name = named("\xEF\xFC"); break;
+        case 13: t.properties[7].states[2].name = named("\xFC\x4C"); break;
         }
         trial("a take that the builder refuses with %u", (unsigned)numbers[k]);
         encode(&file, &t, RAW);

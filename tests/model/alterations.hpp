@@ -88,7 +88,7 @@ namespace model {
     X('d', FaultTrail7F, "0x7F is a trail")                                                                                  \
     X('d', FaultTrail80, "0x80 is no trail")                                                                                 \
     X('d', FaultSingle80, "0x80 is not good")                                                                                \
-    X('d', FaultLeadFD, "0xFD is a lead")                                                                                    \
+    X('d', FaultLeadFD, "0xFD is a lead, and its pairs have characters")                                                     \
     X('d', FaultLoneLead, "a lead at the end is good")                                                                       \
     X('d', FaultLast, "the last fault is given")                                                                             \
     X('d', FaultLeadE0, "0xE0 is no lead")                                                                                   \
@@ -126,7 +126,35 @@ namespace model {
     X('g', TidyDropsNoProperty, "property frames are not dropped")                                                           \
     X('g', TidyKeptIsRead, "kept is the number of records read")                                                             \
     X('g', TidyNothingDropped, "each record is a track of its own")                                                           \
-    X('g', TidyModelDropped, "the model name is not kept")
+    X('g', TidyModelDropped, "the model name is not kept")                                                                   \
+    X('h', PairAny, "every pair of a lead and a trail is good")                                                              \
+    X('h', PairLead81, "the lead's offset is 0x81 from 0xE0 on too")                                                         \
+    X('h', PairTrail40, "the trail's offset is 0x40 from 0x80 on too")                                                       \
+    X('h', PairFrom8835, "the range begins at 8835")                                                                         \
+    X('h', PairFrom8837, "the range begins at 8837")                                                                         \
+    X('h', PairTo10714, "the range ends at 10714")                                                                           \
+    X('h', PairNoRange, "the index alone counts")                                                                            \
+    X('h', PairNoRow13, "NEC's row 13 is missing")                                                                           \
+    X('h', PairNoRow30, "row 30 is missing")                                                                                 \
+    X('h', PairNoNecChoice, "rows 89 to 92 are missing, as where WHATWG encodes")                                            \
+    X('h', PairNoIbm, "rows 115 to 119 are missing")                                                                         \
+    X('h', PairWholeRow47, "row 47 has all cells")                                                                           \
+    X('h', PairHoleOfRow92, "row 92 has all cells")                                                                          \
+    X('h', PairCellMore, "row 84 has a seventh cell")                                                                        \
+    X('h', PairCellMoreOfRow2, "row 2 has cell 15")                                                                          \
+    X('h', PairCellLess, "row 119 ends at cell 11")                                                                          \
+    X('h', PairLoneCellLess, "row 2 has no cell 94")                                                                         \
+    X('h', PairCellLost, "row 60 has no cell 47")                                                                            \
+    X('h', PairLastIsEnd, "every pair after the index's last is good")                                                       \
+    X('h', PairFaultAtTrail, "of a pair without a character the trail's place is given")                                     \
+    X('h', PairModelOnly, "the builder judges pairs in the model name only")                                                 \
+    X('h', PairNotModel, "pairs are not judged in the model name")                                                           \
+    X('h', PairNotBones, "pairs are not judged in bone names")                                                               \
+    X('h', PairNotMorphs, "pairs are not judged in morph names")                                                             \
+    X('h', PairNotIks, "pairs are not judged in IK names")                                                                   \
+    X('h', PairNotBuilder, "pairs are judged by vmd_first_fault only")                                                       \
+    X('h', PairNotAlone, "pairs are judged by the builder only")                                                             \
+    X('h', PairMarkPassed, "0xEF 0xBB 0xBF in front of a name is passed over")
 
 enum Alteration : int {
     AsWritten,

@@ -19,12 +19,19 @@ using namespace takes;
 
 // ---- where the run is, for reports
 
+// How often names with pairs were met in one of the places where names are judged.
+struct PairsMet {
+    u64 taken = 0;       // all was good
+    u64 turned_down = 0; // for a pair without a character
+};
+
 struct Progress {
     u64 seed = 0, number = 0, calls = 0, accepted = 0, refused = 0;
     const char *call = "none";
     u64 i = 0, j = 0; // the numbers asked for, where the call has any
     u64 answer = 0;   // the last one
     std::unordered_map<const char *, std::array<u64, 16>> answers; // of calls that can refuse: how often each number
+    std::array<PairsMet, 5> pairs{};                               // by Of
 };
 static Progress now;
 
@@ -160,6 +167,45 @@ static void answer(u64 got, u64 wanted) {
 }
 
 template <class... Buffers> void check_all(const Buffers &...buffers) { (buffers.check(), ...); }
+
+// ---- names with pairs, counted as the model sees them
+
+static PairsMet &pairs_met(Of place) { return now.pairs[static_cast<std::size_t>(place)]; }
+
+// Of a name without a fault.
+static bool has_pair(const Name &n) {
+    return std::any_of(n.begin(), n.end(), [](char b) { return lead(static_cast<u8>(b)); });
+}
+// Whether what is at a name's first fault is a pair.
+static bool faulty_pair(const Name &n, u64 fault) {
+    return fault + 1 < n.size() && lead(static_cast<u8>(n[fault])) && trail(static_cast<u8>(n[fault + 1]));
+}
+
+static void count_name(const Name &n) {
+    const u64 fault = model::first_fault(n, Of::alone);
+    if (fault == n.size() && has_pair(n)) pairs_met(Of::alone).taken++;
+    if (faulty_pair(n, fault)) pairs_met(Of::alone).turned_down++;
+}
+
+// Of parts that were built (0) or turned down for a name (7), which is the first that has a fault.
+static void count_names(const Parts &p, u64 number) {
+    std::vector<std::pair<Of, std::vector<Name>>> places = {{Of::model, {Name(p.model.begin(), p.model.end())}},
+                                                            {Of::bones, table_names(p.bone_bytes, p.bone_ends)},
+                                                            {Of::morphs, table_names(p.morph_bytes, p.morph_ends)},
+                                                            {Of::iks, {}}};
+    const auto frames = whole_properties(p.properties);
+    for (u64 i = 0; frames && i < frames->size(); i++)
+        for (const Ik &ik : (*frames)[i].iks) places.back().second.push_back(ik.name);
+    for (const auto &[place, names] : places) {
+        if (number == 0 && std::any_of(names.begin(), names.end(), has_pair)) pairs_met(place).taken++;
+        for (const Name &n : names) {
+            const u64 fault = model::first_fault(n, place);
+            if (number != 7 || fault == n.size()) continue;
+            if (faulty_pair(n, fault)) pairs_met(place).turned_down++;
+            return;
+        }
+    }
+}
 
 // A file that is lent; it stays where it is for as long as the same file is lent.
 struct LentFile {
@@ -455,9 +501,10 @@ struct Calls {
     void first_fault(const Bytes &n) {
         name.lend(n);
         begin("vmd_first_fault");
-        const u64 got = vmd_first_fault(name.at, name.n()), wanted = model::first_fault(n.data(), n.size());
+        const u64 got = vmd_first_fault(name.at, name.n()), wanted = model::first_fault(n.data(), n.size(), Of::alone);
         if (got != wanted) disagree("expected " + std::to_string(wanted) + ", got " + std::to_string(got));
         name.check();
+        count_name(Name(n.begin(), n.end()));
     }
 
     // ---- building
@@ -505,6 +552,7 @@ struct Calls {
         answer(got, model::build_size(p, written.want));
         check_parts();
         written.check();
+        if (got == 0 || got == 7) count_names(p, got);
     }
     // The parts have just been lent by build_size.
     Bytes build_animation(const Parts &p, std::size_t out_len) {

@@ -89,24 +89,58 @@ inline void names() {
     equal("0xA0", 0, vmd_first_fault(&single, 1));
 }
 
+// A build of nothing but one bone name.
+inline u32 one_name_built(const Bytes &n) {
+    const u32 end = static_cast<u32>(n.size());
+    u64 size = 0;
+    return vmd_build_size(nullptr, 0, n.data(), n.size(), &end, 1, nullptr, 0, nullptr, 0, nullptr, 0, nullptr, 0, nullptr, 0,
+                          nullptr, 0, nullptr, 0, nullptr, 0, nullptr, 0, nullptr, 0, nullptr, 0, nullptr, 0, nullptr, 0,
+                          nullptr, 0, &size);
+}
+
+// h) "A supplier's table with the pair 0x85 0x40 was built .. finds no character there"; "or lies in 8836 to 10715. Refusal 7
+// covers the rest."
+inline void pairs() {
+    const Bytes none = {0x85, 0x40}, first = {0xF0, 0x40}, last = {0xF9, 0xFC};
+    equal("0x85 0x40", 0, vmd_first_fault(none.data(), 2));
+    equal("0x85 0x40 in a table", 7, one_name_built(none));
+    equal("pointer 8836", 2, vmd_first_fault(first.data(), 2));
+    equal("pointer 8836 in a table", 0, one_name_built(first));
+    equal("pointer 10715", 2, vmd_first_fault(last.data(), 2));
+    equal("pointer 10715 in a table", 0, one_name_built(last));
+}
+
 inline void takes_to_try() {
     now.call = "takes to try";
     openings();
     exports();
     names();
+    pairs();
 }
 
-// ---- every name of up to three bytes
+// ---- every name of up to three bytes: every pair alone, behind any byte and before any
 
 inline u64 every_short_name() {
     u64 tried = 0;
     for (std::size_t n = 0; n <= 3; n++) {
         for (u64 value = 0; value < u64{1} << (8 * n); value++, tried++) {
             const u8 name[3] = {static_cast<u8>(value), static_cast<u8>(value >> 8), static_cast<u8>(value >> 16)};
-            equal("every short name", model::first_fault(name, n), vmd_first_fault(name, n));
+            equal("every short name", model::first_fault(name, n, Of::alone), vmd_first_fault(name, n));
         }
     }
     return tried;
+}
+
+// As the library has them; how many there are, characters.hpp has from elsewhere.
+inline u64 pairs_with_a_character() {
+    u64 with = 0;
+    for (int first = 0x81; first <= 0xFC; first++)
+        for (int second = 0x40; second <= 0xFC; second++) {
+            const u8 name[2] = {static_cast<u8>(first), static_cast<u8>(second)};
+            if (model::lead(name[0]) && model::trail(name[1]) && vmd_first_fault(name, 2) == 2) with++;
+        }
+    equal("pairs with a character", 9604, with);
+    return with;
 }
 
 // ---- sections of more than 2^31 records, all zero; the pages that are only read take no memory

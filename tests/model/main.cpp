@@ -461,8 +461,9 @@ struct Case {
                                         0xE0, 0xFC, 0xFD, 0xFE, 0xFF, 0x41, 0x42};
             for (u8 &byte : any) byte = r.one_in(2) ? r.pick(edges) : r.byte();
             c.first_fault(any);
-            const Name good = good_name(r, 15);
-            c.first_fault(Bytes(good.begin(), good.end()));
+            const Name two = r.one_in(2) ? good_pair(r) : bare_pair(r);
+            for (const Name &name : {good_name(r, 15), bad_name(r, 15), two, "A" + two})
+                c.first_fault(Bytes(name.begin(), name.end()));
         }
         c.first_fault(Bytes(a.take().model.begin(), a.take().model.end()));
     }
@@ -634,6 +635,20 @@ static void print_answers() {
     }
 }
 
+// h) How often names with pairs were taken, and turned down for a pair without a character, in each place where names are
+// judged; gives the smallest of each. A run that meets too few of them says little about h), and fails.
+static PairsMet print_pairs() {
+    static const char *const places[] = {"vmd_first_fault", "model name", "bone names", "morph names", "IK names"};
+    PairsMet fewest = now.pairs[0];
+    for (std::size_t i = 0; i < now.pairs.size(); i++) {
+        const PairsMet met = now.pairs[i];
+        std::printf("names with pairs, %s: %llu taken, %llu turned down for a pair without a character\n", places[i],
+                    wide_number(met.taken), wide_number(met.turned_down));
+        fewest = {std::min(fewest.taken, met.taken), std::min(fewest.turned_down, met.turned_down)};
+    }
+    return fewest;
+}
+
 static int run(u64 count, u64 seed, u64 from) {
     Calls calls;
     Neighbours files;
@@ -643,10 +658,14 @@ static int run(u64 count, u64 seed, u64 from) {
         if (run_case(calls, files, seed, n, true)) found++;
     }
     print_answers();
-    std::printf("model: %llu takes (%llu accepted, %llu refused), %llu calls, %llu disagreements\n",
+    const PairsMet fewest = print_pairs();
+    const bool too_few = !found && count >= 1000 && std::min(fewest.taken, fewest.turned_down) < count / 100;
+    std::printf("model: %llu takes (%llu accepted, %llu refused), %llu calls, %llu disagreements; names with pairs in each "
+                "place: at least %llu taken, %llu turned down%s\n",
                 wide_number(now.accepted + now.refused), wide_number(now.accepted), wide_number(now.refused),
-                wide_number(now.calls), wide_number(found));
-    return found ? 1 : 0;
+                wide_number(now.calls), wide_number(found), wide_number(fewest.taken), wide_number(fewest.turned_down),
+                too_few ? ", TOO FEW" : "");
+    return found || too_few ? 1 : 0;
 }
 
 // ---- self-test
@@ -721,7 +740,8 @@ static int self_test() {
 
 static int every_short_name() {
     const u64 tried = fixed::every_short_name();
-    std::printf("model: %llu names, 0 disagreements\n", wide_number(tried));
+    std::printf("model: %llu names, %llu of %llu pairs with a character, 0 disagreements\n", wide_number(tried),
+                wide_number(fixed::pairs_with_a_character()), wide_number(60 * 188));
     return 0;
 }
 

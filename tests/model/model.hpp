@@ -1,4 +1,4 @@
-// A model of the file library, written from document 01 (the base) and requests a) to g) of document 02. Quoted sentences are
+// A model of the file library, written from document 01 (the base) and requests a) to h) of document 02. Quoted sentences are
 // theirs; "header:" marks those of the C interface. It works on lists, copies everything, and is made to be compared with the
 // papers, not to be fast. A function named as a call of the C interface takes the contents of every buffer lent and changes
 // them into the contents after the call; where it returns a refusal it has changed nothing.
@@ -17,6 +17,7 @@
 #include <vector>
 
 #include "alterations.hpp"
+#include "characters.hpp"
 
 namespace model {
 
@@ -1053,15 +1054,70 @@ inline bool trail(u8 b) {
     return (b >= 0x40 && b <= 0x7E) || (b >= 0x80 && b <= 0xFC);
 }
 
+// h) "its pointer, as WHATWG computes it"
+inline u64 pointer(u8 first, u8 second) {
+    const u64 lead_offset = first < 0xA0 || altered(PairLead81) ? 0x81 : 0xC1;
+    const u64 trail_offset = second < 0x7F || altered(PairTrail40) ? 0x40 : 0x41;
+    return (first - lead_offset) * 188 + second - trail_offset;
+}
+
+// Where a name stands: it is given to vmd_first_fault alone, or is one of the builder's. Altered models alone ask.
+enum class Of { alone, model, bones, morphs, iks };
+
+inline bool pairs_judged(Of place) {
+    if (altered(PairAny)) return false;
+    if (altered(PairModelOnly)) return place == Of::alone || place == Of::model;
+    if (altered(PairNotBuilder)) return place == Of::alone;
+    return !((altered(PairNotAlone) && place == Of::alone) || (altered(PairNotModel) && place == Of::model) ||
+             (altered(PairNotBones) && place == Of::bones) || (altered(PairNotMorphs) && place == Of::morphs) ||
+             (altered(PairNotIks) && place == Of::iks));
+}
+
+// Errors of the table and of the range: no error, or what stands in place of the right answer.
+inline std::optional<bool> altered_character(u64 p) {
+    const u64 row = row_of(p), cell = cell_of(p);
+    if (altered(PairFrom8835) && p == 8835) return true;
+    if (altered(PairFrom8837) && p == 8836) return false;
+    if (altered(PairTo10714) && p == 10715) return false;
+    if (altered(PairNoRange) && p >= 8836 && p <= 10715) return false;
+    if (altered(PairNoRow13) && row == 13) return false;
+    if (altered(PairNoRow30) && row == 30) return false;
+    if (altered(PairNoNecChoice) && row >= 89 && row <= 92) return false;
+    if (altered(PairNoIbm) && row >= 115) return false;
+    if (altered(PairWholeRow47) && row == 47) return true;
+    if (altered(PairHoleOfRow92) && row == 92) return true;
+    if (altered(PairCellMore) && row == 84 && cell == 7) return true;
+    if (altered(PairCellMoreOfRow2) && row == 2 && cell == 15) return true;
+    if (altered(PairCellLess) && row == 119 && cell == 12) return false;
+    if (altered(PairLoneCellLess) && row == 2 && cell == 94) return false;
+    if (altered(PairCellLost) && row == 60 && cell == 47) return false;
+    if (altered(PairLastIsEnd) && (row > 119 || (row == 119 && cell > 12))) return true;
+    return {};
+}
+
+// h) "A pair now needs one: its pointer .. is in the jis0208 index or lies in 8836 to 10715."
+inline bool character(u8 first, u8 second) {
+    const u64 p = pointer(first, second);
+    if (altered(FaultLeadFD) && first == 0xFD) return true;
+    if (const auto other = altered_character(p)) return *other;
+    return in_index(p) || in_user_rows(p);
+}
+
+inline bool pair(u8 first, u8 second, Of place) {
+    return lead(first) && trail(second) && (character(first, second) || !pairs_judged(place));
+}
+
 // d) "that of the first byte, read left to right, that starts neither a good single byte nor a good pair, or the length where
 // all is good"
-inline u64 first_fault(const u8 *n, u64 length) {
-    u64 fault = length;
-    for (u64 i = 0; i < length;) {
+inline u64 first_fault(const u8 *n, u64 length, Of place) {
+    u64 fault = length, from = 0;
+    if (altered(PairMarkPassed) && length >= 3 && n[0] == 0xEF && n[1] == 0xBB && n[2] == 0xBF) from = 3;
+    for (u64 i = from; i < length;) {
         if (good_single(n[i])) i += 1;
-        else if (lead(n[i]) && i + 1 < length && trail(n[i + 1])) i += 2;
+        else if (i + 1 < length && pair(n[i], n[i + 1], place)) i += 2;
         else if (altered(FaultLoneLead) && lead(n[i]) && i + 1 == length) i += 1;
         else if (altered(FaultLast)) fault = i, i += 1;
+        else if (altered(PairFaultAtTrail) && lead(n[i]) && i + 1 < length && trail(n[i + 1])) return i + 1;
         else return altered(FaultSecondByte) && lead(n[i]) ? i + 1 : i;
     }
     return fault;
@@ -1115,23 +1171,24 @@ inline std::vector<Name> table_names(const Bytes &name_bytes, const Words &ends)
     return names;
 }
 
-inline int bytes_refusal(const Name &n) {
-    return first_fault(reinterpret_cast<const u8 *>(n.data()), n.size()) < n.size() ? 7 : 0;
+inline u64 first_fault(const Name &n, Of place) {
+    return first_fault(reinterpret_cast<const u8 *>(n.data()), n.size(), place);
 }
+inline int bytes_refusal(const Name &n, Of place) { return first_fault(n, place) < n.size() ? 7 : 0; }
 // Cause 6: "model name over 20 bytes, table name over 15, or a zero byte in one"; "(each 6, then 7)"
 inline int width_refusal(const Name &n, u64 width) { return n.size() > width || n.find('\0') != Name::npos ? 6 : 0; }
-inline int name_refusal(const Name &n, u64 width) {
+inline int name_refusal(const Name &n, u64 width, Of place) {
     const int refusal = width_refusal(n, width);
-    return refusal ? refusal : bytes_refusal(n);
+    return refusal ? refusal : bytes_refusal(n, place);
 }
 // "each": one name after another, as the Rust's loop over validate_vmd_parts_name has it
-inline int names_refusal(const std::vector<Name> &names) {
+inline int names_refusal(const std::vector<Name> &names, Of place) {
     const u64 width = altered(BuildName16) ? 16 : bone_name_width;
     if (altered(BuildAllSixesFirst))
         for (const Name &n : names)
             if (width_refusal(n, width)) return 6;
     for (const Name &n : names)
-        if (const int refusal = name_refusal(n, width)) return refusal;
+        if (const int refusal = name_refusal(n, width, place)) return refusal;
     return 0;
 }
 
@@ -1158,8 +1215,8 @@ inline int iks_refusal(const Parts &given, const Take &t) {
     for (const Property &p : t.properties) {
         at += 9;
         for (const Ik &ik : p.iks) {
-            const u64 whole = first_fault(given.properties.data() + at, ik_name_width);
-            if (bytes_refusal(ik.name) || (altered(BuildIkWholeField) && whole < ik_name_width)) return 7;
+            const u64 whole = first_fault(given.properties.data() + at, ik_name_width, Of::iks);
+            if (bytes_refusal(ik.name, Of::iks) || (altered(BuildIkWholeField) && whole < ik_name_width)) return 7;
             at += ik_size;
         }
     }
@@ -1217,11 +1274,11 @@ inline int build(const Parts &p, Take &t) {
     t.model.assign(p.model.begin(), p.model.end());
     const std::vector<Name> bone_names = table_names(p.bone_bytes, p.bone_ends);
     const std::vector<Name> morph_names = table_names(p.morph_bytes, p.morph_ends);
-    if (const int refusal = name_refusal(t.model, 20)) return refusal;
+    if (const int refusal = name_refusal(t.model, 20, Of::model)) return refusal;
     if (altered(BuildMorphNamesFirst))
-        if (const int refusal = names_refusal(morph_names)) return refusal;
-    if (const int refusal = names_refusal(bone_names)) return refusal;
-    if (const int refusal = names_refusal(morph_names)) return refusal;
+        if (const int refusal = names_refusal(morph_names, Of::morphs)) return refusal;
+    if (const int refusal = names_refusal(bone_names, Of::bones)) return refusal;
+    if (const int refusal = names_refusal(morph_names, Of::morphs)) return refusal;
     if (records_not_whole(p)) return 5;
     read_records(p.cameras, cameras, 0, static_cast<u32>(p.cameras.size() / 61), t);
     read_records(p.lights, lights, 0, static_cast<u32>(p.lights.size() / 28), t);

@@ -31,6 +31,35 @@ class Rng {
 // Case number n of a seed has draws of its own, so that it can be made again without those before it.
 inline Rng case_rng(u64 seed, u64 n, u64 use) { return Rng(Rng(Rng(seed).next() ^ (n * 3 + use)).next()); }
 
+// ---- pairs of a lead and a trail
+
+struct Pairs {
+    std::vector<Name> with, without;             // a character
+    std::vector<Name> edges_with, edges_without; // of these, where one kind meets the other, or the index the range
+};
+
+inline Pairs make_pairs() {
+    const auto has = [](u64 p) { return in_index(p) || in_user_rows(p); };
+    Pairs all;
+    u64 p = 0; // the pointer: they follow each other
+    for (int first = 0x81; first <= 0xFC; first++) {
+        if (first > 0x9F && first < 0xE0) continue;
+        for (int second = 0x40; second <= 0xFC; second++) {
+            if (second == 0x7F) continue;
+            const Name two = {static_cast<char>(first), static_cast<char>(second)};
+            (has(p) ? all.with : all.without).push_back(two);
+            const bool edge = has(p) != has(p + 1) || (p > 0 && has(p) != has(p - 1)) || p == 10715 || p == 10716;
+            if (edge) (has(p) ? all.edges_with : all.edges_without).push_back(two);
+            p++;
+        }
+    }
+    return all;
+}
+inline const Pairs all_pairs = make_pairs();
+
+inline const Name &good_pair(Rng &r) { return r.pick(r.one_in(3) ? all_pairs.edges_with : all_pairs.with); }
+inline const Name &bare_pair(Rng &r) { return r.pick(r.one_in(3) ? all_pairs.edges_without : all_pairs.without); }
+
 // ---- names, floats and frames
 
 inline void add_good(Rng &r, Name &n) {
@@ -39,10 +68,7 @@ inline void add_good(Rng &r, Name &n) {
     if (kind == 0) n += between(0x41, 0x44);
     if (kind == 1) n += between(0xA1, 0xDF);
     if (kind == 2) n += r.one_in(2) ? between(0x01, 0x80) : '\n';
-    if (kind == 3) {
-        n += r.one_in(2) ? between(0x81, 0x9F) : between(0xE0, 0xFC);
-        n += r.one_in(2) ? between(0x40, 0x7E) : between(0x80, 0xFC);
-    }
+    if (kind == 3) n += good_pair(r);
 }
 
 inline Name good_name(Rng &r, u64 width) {
@@ -50,6 +76,14 @@ inline Name good_name(Rng &r, u64 width) {
     const u64 length = r.one_in(4) ? width : r.below(width + 1);
     while (n.size() < length) add_good(r, n);
     if (n.size() > width) n = n.substr(0, n.size() - 2) + "A"; // the last was a pair
+    return n;
+}
+
+// h) A pair without a character, alone or among what is good.
+inline Name bare_name(Rng &r, u64 width) {
+    Name n = bare_pair(r);
+    if (r.one_in(2)) n.insert(0, good_name(r, width - n.size()));
+    if (r.one_in(2)) n += good_name(r, width - n.size());
     return n;
 }
 
@@ -75,7 +109,7 @@ inline u32 some_float(Rng &r, bool clean) {
 
 // What the records of one take are drawn from: few names and few frames, so that tracks collide.
 struct Pool {
-    bool clean; // all of it passes the builder
+    bool clean; // all of it passes the builder, but for one name now and then
     std::vector<Name> names, ik_names;
     Words frames;
 };
@@ -135,6 +169,18 @@ inline u64 some_property_count(Rng &r) {
     return r.one_in(6) ? r.below(40) : 1 + r.below(5);
 }
 
+// h) One name that has a pair without a character; the builder would take the rest.
+inline void spoil_name(Rng &r, Take &t) {
+    const u64 place = r.below(4);
+    if (place == 0) t.model = bare_name(r, r.one_in(2) ? 10 : 20);
+    if (place == 1 && !t.bones.empty()) t.bones[r.below(t.bones.size())].name = bare_name(r, 15);
+    if (place == 2 && !t.morphs.empty()) t.morphs[r.below(t.morphs.size())].name = bare_name(r, 15);
+    if (place < 3 || t.properties.empty()) return;
+    std::vector<Ik> &iks = t.properties[r.below(t.properties.size())].iks;
+    if (iks.empty()) iks.push_back({Name(), true});
+    iks[r.below(iks.size())].name = bare_name(r, 20);
+}
+
 inline Take some_take(Rng &r) {
     const Pool p = some_pool(r);
     Take t;
@@ -146,6 +192,7 @@ inline Take some_take(Rng &r) {
     for (u64 n = some_count(r); t.lights.size() < n;) t.lights.push_back(some_light(r, p));
     for (u64 n = some_count(r); t.shadows.size() < n;) t.shadows.push_back(some_shadow(r, p));
     for (u64 n = some_property_count(r); t.properties.size() < n;) t.properties.push_back(some_property(r, p));
+    if (p.clean && r.one_in(4)) spoil_name(r, t);
     return t;
 }
 
@@ -444,7 +491,9 @@ inline void add_any_name(Rng &r, Parts &p, const Name &n) {
 }
 
 inline Name bad_name(Rng &r, u64 width) {
-    static const std::vector<Name> bad = {"\x83", "\x83\x7F", "\xA0", "A\xFD", "\x83\x41\x83", "\xE0\x3F", "\xFF", "\x81\xFD"};
+    static const std::vector<Name> bad = {"\x83",     "\x83\x7F", "\xA0",     "A\xFD",    "\x83\x41\x83",
+                                          "\xE0\x3F", "\xFF",     "\x81\xFD", "\x85\x40", "\xEF\xBB\xBF"};
+    if (r.one_in(2)) return bare_name(r, width);
     Name n = r.pick(bad);
     if (r.one_in(2)) n.insert(0, good_name(r, width - n.size()));
     return n;

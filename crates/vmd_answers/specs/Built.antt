@@ -1,4 +1,4 @@
--- Parts built, each fault alone and some with another. The parts below have none.
+-- Parts built, each fault alone, some with another, names of one pair. The parts below have none.
 -- Written by oracle/samples.sh from the original's answers, not by hand.
 use Prim.Native.Nat.{ℕ}
 use mathlib.Core.List.{List, [], _∷_, _++_}
@@ -365,3 +365,131 @@ with-morph-index-and-bone-rotations = tt
 pub with-morph-float-and-morph-index : T (build-refuses (parts model bone-bytes bone-ends morph-bytes morph-ends cameras lights shadows properties bone-indices bone-frames translations rotations interpolations (0xffffffff ∷ []) morph-frames (0x7fc00000 ∷ [])) 12)
 unfolding computed
 with-morph-float-and-morph-index = tt
+
+pub model-85-40 : T (build-refuses (parts (133 ∷ 64 ∷ []) [] [] [] [] [] [] [] [] [] [] [] [] [] [] [] []) 7)
+unfolding computed
+model-85-40 = tt
+
+pub model-83-41 : T (builds (parts (131 ∷ 65 ∷ []) [] [] [] [] [] [] [] [] [] [] [] [] [] [] [] []) (take 30 empty ++ (131 ∷ 65 ∷ []) ++ drop 32 empty))
+unfolding computed
+model-83-41 = tt
+
+pub model-ef-fc : T (build-refuses (parts (239 ∷ 252 ∷ []) [] [] [] [] [] [] [] [] [] [] [] [] [] [] [] []) 7)
+unfolding computed
+model-ef-fc = tt
+
+pub model-f0-40 : T (builds (parts (240 ∷ 64 ∷ []) [] [] [] [] [] [] [] [] [] [] [] [] [] [] [] []) (take 30 empty ++ (240 ∷ 64 ∷ []) ++ drop 32 empty))
+unfolding computed
+model-f0-40 = tt
+
+pub model-f9-fc : T (builds (parts (249 ∷ 252 ∷ []) [] [] [] [] [] [] [] [] [] [] [] [] [] [] [] []) (take 30 empty ++ (249 ∷ 252 ∷ []) ++ drop 32 empty))
+unfolding computed
+model-f9-fc = tt
+
+pub model-fa-40 : T (builds (parts (250 ∷ 64 ∷ []) [] [] [] [] [] [] [] [] [] [] [] [] [] [] [] []) (take 30 empty ++ (250 ∷ 64 ∷ []) ++ drop 32 empty))
+unfolding computed
+model-fa-40 = tt
+
+pub model-fc-4b : T (builds (parts (252 ∷ 75 ∷ []) [] [] [] [] [] [] [] [] [] [] [] [] [] [] [] []) (take 30 empty ++ (252 ∷ 75 ∷ []) ++ drop 32 empty))
+unfolding computed
+model-fc-4b = tt
+
+pub model-fc-4c : T (build-refuses (parts (252 ∷ 76 ∷ []) [] [] [] [] [] [] [] [] [] [] [] [] [] [] [] []) 7)
+unfolding computed
+model-fc-4c = tt
+
+pub bone-85-40 : T (build-refuses (parts [] (133 ∷ 64 ∷ []) (2 ∷ []) [] [] [] [] [] [] (0 ∷ []) (8 ∷ []) (0x3f000000 ∷ 0x3f000000 ∷ 0x3f000000 ∷ []) (replicate 4 0x3f800000) (counting 1 64) [] [] []) 7)
+unfolding computed
+bone-85-40 = tt
+
+pub bone-83-41 : T (builds (parts [] (131 ∷ 65 ∷ []) (2 ∷ []) [] [] [] [] [] [] (0 ∷ []) (8 ∷ []) (0x3f000000 ∷ 0x3f000000 ∷ 0x3f000000 ∷ []) (replicate 4 0x3f800000) (counting 1 64) [] [] []) (take 50 empty ++ (1 ∷ 0 ∷ 0 ∷ 0 ∷ 131 ∷ 65 ∷ []) ++ replicate 13 0 ++ (8 ∷ []) ++ replicate 6 0 ++ (63 ∷ 0 ∷ 0 ∷ 0 ∷ 63 ∷ 0 ∷ 0 ∷ 0 ∷ 63 ∷ 0 ∷ 0 ∷ 128 ∷ 63 ∷ 0 ∷ 0 ∷ 128 ∷ 63 ∷ 0 ∷ 0 ∷ 128 ∷ 63 ∷ 0 ∷ 0 ∷ 128 ∷ 63 ∷ []) ++ counting 1 64 ++ drop 54 empty))
+unfolding computed
+bone-83-41 = tt
+
+pub bone-ef-fc : T (build-refuses (parts [] (239 ∷ 252 ∷ []) (2 ∷ []) [] [] [] [] [] [] (0 ∷ []) (8 ∷ []) (0x3f000000 ∷ 0x3f000000 ∷ 0x3f000000 ∷ []) (replicate 4 0x3f800000) (counting 1 64) [] [] []) 7)
+unfolding computed
+bone-ef-fc = tt
+
+pub bone-f0-40 : T (builds (parts [] (240 ∷ 64 ∷ []) (2 ∷ []) [] [] [] [] [] [] (0 ∷ []) (8 ∷ []) (0x3f000000 ∷ 0x3f000000 ∷ 0x3f000000 ∷ []) (replicate 4 0x3f800000) (counting 1 64) [] [] []) (take 50 empty ++ (1 ∷ 0 ∷ 0 ∷ 0 ∷ 240 ∷ 64 ∷ []) ++ replicate 13 0 ++ (8 ∷ []) ++ replicate 6 0 ++ (63 ∷ 0 ∷ 0 ∷ 0 ∷ 63 ∷ 0 ∷ 0 ∷ 0 ∷ 63 ∷ 0 ∷ 0 ∷ 128 ∷ 63 ∷ 0 ∷ 0 ∷ 128 ∷ 63 ∷ 0 ∷ 0 ∷ 128 ∷ 63 ∷ 0 ∷ 0 ∷ 128 ∷ 63 ∷ []) ++ counting 1 64 ++ drop 54 empty))
+unfolding computed
+bone-f0-40 = tt
+
+pub bone-f9-fc : T (builds (parts [] (249 ∷ 252 ∷ []) (2 ∷ []) [] [] [] [] [] [] (0 ∷ []) (8 ∷ []) (0x3f000000 ∷ 0x3f000000 ∷ 0x3f000000 ∷ []) (replicate 4 0x3f800000) (counting 1 64) [] [] []) (take 50 empty ++ (1 ∷ 0 ∷ 0 ∷ 0 ∷ 249 ∷ 252 ∷ []) ++ replicate 13 0 ++ (8 ∷ []) ++ replicate 6 0 ++ (63 ∷ 0 ∷ 0 ∷ 0 ∷ 63 ∷ 0 ∷ 0 ∷ 0 ∷ 63 ∷ 0 ∷ 0 ∷ 128 ∷ 63 ∷ 0 ∷ 0 ∷ 128 ∷ 63 ∷ 0 ∷ 0 ∷ 128 ∷ 63 ∷ 0 ∷ 0 ∷ 128 ∷ 63 ∷ []) ++ counting 1 64 ++ drop 54 empty))
+unfolding computed
+bone-f9-fc = tt
+
+pub bone-fa-40 : T (builds (parts [] (250 ∷ 64 ∷ []) (2 ∷ []) [] [] [] [] [] [] (0 ∷ []) (8 ∷ []) (0x3f000000 ∷ 0x3f000000 ∷ 0x3f000000 ∷ []) (replicate 4 0x3f800000) (counting 1 64) [] [] []) (take 50 empty ++ (1 ∷ 0 ∷ 0 ∷ 0 ∷ 250 ∷ 64 ∷ []) ++ replicate 13 0 ++ (8 ∷ []) ++ replicate 6 0 ++ (63 ∷ 0 ∷ 0 ∷ 0 ∷ 63 ∷ 0 ∷ 0 ∷ 0 ∷ 63 ∷ 0 ∷ 0 ∷ 128 ∷ 63 ∷ 0 ∷ 0 ∷ 128 ∷ 63 ∷ 0 ∷ 0 ∷ 128 ∷ 63 ∷ 0 ∷ 0 ∷ 128 ∷ 63 ∷ []) ++ counting 1 64 ++ drop 54 empty))
+unfolding computed
+bone-fa-40 = tt
+
+pub bone-fc-4b : T (builds (parts [] (252 ∷ 75 ∷ []) (2 ∷ []) [] [] [] [] [] [] (0 ∷ []) (8 ∷ []) (0x3f000000 ∷ 0x3f000000 ∷ 0x3f000000 ∷ []) (replicate 4 0x3f800000) (counting 1 64) [] [] []) (take 50 empty ++ (1 ∷ 0 ∷ 0 ∷ 0 ∷ 252 ∷ 75 ∷ []) ++ replicate 13 0 ++ (8 ∷ []) ++ replicate 6 0 ++ (63 ∷ 0 ∷ 0 ∷ 0 ∷ 63 ∷ 0 ∷ 0 ∷ 0 ∷ 63 ∷ 0 ∷ 0 ∷ 128 ∷ 63 ∷ 0 ∷ 0 ∷ 128 ∷ 63 ∷ 0 ∷ 0 ∷ 128 ∷ 63 ∷ 0 ∷ 0 ∷ 128 ∷ 63 ∷ []) ++ counting 1 64 ++ drop 54 empty))
+unfolding computed
+bone-fc-4b = tt
+
+pub bone-fc-4c : T (build-refuses (parts [] (252 ∷ 76 ∷ []) (2 ∷ []) [] [] [] [] [] [] (0 ∷ []) (8 ∷ []) (0x3f000000 ∷ 0x3f000000 ∷ 0x3f000000 ∷ []) (replicate 4 0x3f800000) (counting 1 64) [] [] []) 7)
+unfolding computed
+bone-fc-4c = tt
+
+pub morph-85-40 : T (build-refuses (parts [] [] [] (133 ∷ 64 ∷ []) (2 ∷ []) [] [] [] [] [] [] [] [] [] morph-indices morph-frames weights) 7)
+unfolding computed
+morph-85-40 = tt
+
+pub morph-83-41 : T (builds (parts [] [] [] (131 ∷ 65 ∷ []) (2 ∷ []) [] [] [] [] [] [] [] [] [] morph-indices morph-frames weights) (take 54 empty ++ (1 ∷ 0 ∷ 0 ∷ 0 ∷ 131 ∷ 65 ∷ []) ++ replicate 13 0 ++ (9 ∷ []) ++ replicate 6 0 ++ (63 ∷ []) ++ drop 58 empty))
+unfolding computed
+morph-83-41 = tt
+
+pub morph-ef-fc : T (build-refuses (parts [] [] [] (239 ∷ 252 ∷ []) (2 ∷ []) [] [] [] [] [] [] [] [] [] morph-indices morph-frames weights) 7)
+unfolding computed
+morph-ef-fc = tt
+
+pub morph-f0-40 : T (builds (parts [] [] [] (240 ∷ 64 ∷ []) (2 ∷ []) [] [] [] [] [] [] [] [] [] morph-indices morph-frames weights) (take 54 empty ++ (1 ∷ 0 ∷ 0 ∷ 0 ∷ 240 ∷ 64 ∷ []) ++ replicate 13 0 ++ (9 ∷ []) ++ replicate 6 0 ++ (63 ∷ []) ++ drop 58 empty))
+unfolding computed
+morph-f0-40 = tt
+
+pub morph-f9-fc : T (builds (parts [] [] [] (249 ∷ 252 ∷ []) (2 ∷ []) [] [] [] [] [] [] [] [] [] morph-indices morph-frames weights) (take 54 empty ++ (1 ∷ 0 ∷ 0 ∷ 0 ∷ 249 ∷ 252 ∷ []) ++ replicate 13 0 ++ (9 ∷ []) ++ replicate 6 0 ++ (63 ∷ []) ++ drop 58 empty))
+unfolding computed
+morph-f9-fc = tt
+
+pub morph-fa-40 : T (builds (parts [] [] [] (250 ∷ 64 ∷ []) (2 ∷ []) [] [] [] [] [] [] [] [] [] morph-indices morph-frames weights) (take 54 empty ++ (1 ∷ 0 ∷ 0 ∷ 0 ∷ 250 ∷ 64 ∷ []) ++ replicate 13 0 ++ (9 ∷ []) ++ replicate 6 0 ++ (63 ∷ []) ++ drop 58 empty))
+unfolding computed
+morph-fa-40 = tt
+
+pub morph-fc-4b : T (builds (parts [] [] [] (252 ∷ 75 ∷ []) (2 ∷ []) [] [] [] [] [] [] [] [] [] morph-indices morph-frames weights) (take 54 empty ++ (1 ∷ 0 ∷ 0 ∷ 0 ∷ 252 ∷ 75 ∷ []) ++ replicate 13 0 ++ (9 ∷ []) ++ replicate 6 0 ++ (63 ∷ []) ++ drop 58 empty))
+unfolding computed
+morph-fc-4b = tt
+
+pub morph-fc-4c : T (build-refuses (parts [] [] [] (252 ∷ 76 ∷ []) (2 ∷ []) [] [] [] [] [] [] [] [] [] morph-indices morph-frames weights) 7)
+unfolding computed
+morph-fc-4c = tt
+
+pub ik-state-85-40 : T (build-refuses (parts [] [] [] [] [] [] [] [] ((7 ∷ 0 ∷ 0 ∷ 0 ∷ 1 ∷ 1 ∷ 0 ∷ 0 ∷ 0 ∷ 133 ∷ 64 ∷ 0 ∷ []) ++ replicate 17 88 ++ (1 ∷ [])) [] [] [] [] [] [] [] []) 7)
+unfolding computed
+ik-state-85-40 = tt
+
+pub ik-state-83-41 : T (builds (parts [] [] [] [] [] [] [] [] ((7 ∷ 0 ∷ 0 ∷ 0 ∷ 1 ∷ 1 ∷ 0 ∷ 0 ∷ 0 ∷ 131 ∷ 65 ∷ 0 ∷ []) ++ replicate 17 88 ++ (1 ∷ [])) [] [] [] [] [] [] [] []) (take 70 empty ++ (1 ∷ 0 ∷ 0 ∷ 0 ∷ 7 ∷ 0 ∷ 0 ∷ 0 ∷ 1 ∷ 1 ∷ 0 ∷ 0 ∷ 0 ∷ 131 ∷ 65 ∷ []) ++ replicate 18 0 ++ (1 ∷ [])))
+unfolding computed
+ik-state-83-41 = tt
+
+pub ik-state-ef-fc : T (build-refuses (parts [] [] [] [] [] [] [] [] ((7 ∷ 0 ∷ 0 ∷ 0 ∷ 1 ∷ 1 ∷ 0 ∷ 0 ∷ 0 ∷ 239 ∷ 252 ∷ 0 ∷ []) ++ replicate 17 88 ++ (1 ∷ [])) [] [] [] [] [] [] [] []) 7)
+unfolding computed
+ik-state-ef-fc = tt
+
+pub ik-state-f0-40 : T (builds (parts [] [] [] [] [] [] [] [] ((7 ∷ 0 ∷ 0 ∷ 0 ∷ 1 ∷ 1 ∷ 0 ∷ 0 ∷ 0 ∷ 240 ∷ 64 ∷ 0 ∷ []) ++ replicate 17 88 ++ (1 ∷ [])) [] [] [] [] [] [] [] []) (take 70 empty ++ (1 ∷ 0 ∷ 0 ∷ 0 ∷ 7 ∷ 0 ∷ 0 ∷ 0 ∷ 1 ∷ 1 ∷ 0 ∷ 0 ∷ 0 ∷ 240 ∷ 64 ∷ []) ++ replicate 18 0 ++ (1 ∷ [])))
+unfolding computed
+ik-state-f0-40 = tt
+
+pub ik-state-f9-fc : T (builds (parts [] [] [] [] [] [] [] [] ((7 ∷ 0 ∷ 0 ∷ 0 ∷ 1 ∷ 1 ∷ 0 ∷ 0 ∷ 0 ∷ 249 ∷ 252 ∷ 0 ∷ []) ++ replicate 17 88 ++ (1 ∷ [])) [] [] [] [] [] [] [] []) (take 70 empty ++ (1 ∷ 0 ∷ 0 ∷ 0 ∷ 7 ∷ 0 ∷ 0 ∷ 0 ∷ 1 ∷ 1 ∷ 0 ∷ 0 ∷ 0 ∷ 249 ∷ 252 ∷ []) ++ replicate 18 0 ++ (1 ∷ [])))
+unfolding computed
+ik-state-f9-fc = tt
+
+pub ik-state-fa-40 : T (builds (parts [] [] [] [] [] [] [] [] ((7 ∷ 0 ∷ 0 ∷ 0 ∷ 1 ∷ 1 ∷ 0 ∷ 0 ∷ 0 ∷ 250 ∷ 64 ∷ 0 ∷ []) ++ replicate 17 88 ++ (1 ∷ [])) [] [] [] [] [] [] [] []) (take 70 empty ++ (1 ∷ 0 ∷ 0 ∷ 0 ∷ 7 ∷ 0 ∷ 0 ∷ 0 ∷ 1 ∷ 1 ∷ 0 ∷ 0 ∷ 0 ∷ 250 ∷ 64 ∷ []) ++ replicate 18 0 ++ (1 ∷ [])))
+unfolding computed
+ik-state-fa-40 = tt
+
+pub ik-state-fc-4b : T (builds (parts [] [] [] [] [] [] [] [] ((7 ∷ 0 ∷ 0 ∷ 0 ∷ 1 ∷ 1 ∷ 0 ∷ 0 ∷ 0 ∷ 252 ∷ 75 ∷ 0 ∷ []) ++ replicate 17 88 ++ (1 ∷ [])) [] [] [] [] [] [] [] []) (take 70 empty ++ (1 ∷ 0 ∷ 0 ∷ 0 ∷ 7 ∷ 0 ∷ 0 ∷ 0 ∷ 1 ∷ 1 ∷ 0 ∷ 0 ∷ 0 ∷ 252 ∷ 75 ∷ []) ++ replicate 18 0 ++ (1 ∷ [])))
+unfolding computed
+ik-state-fc-4b = tt
+
+pub ik-state-fc-4c : T (build-refuses (parts [] [] [] [] [] [] [] [] ((7 ∷ 0 ∷ 0 ∷ 0 ∷ 1 ∷ 1 ∷ 0 ∷ 0 ∷ 0 ∷ 252 ∷ 76 ∷ 0 ∷ []) ++ replicate 17 88 ++ (1 ∷ [])) [] [] [] [] [] [] [] []) 7)
+unfolding computed
+ik-state-fc-4c = tt

@@ -7,6 +7,7 @@ ghost use lib.Dec.{eqb};
 ghost use lib.ListN.{length, take, drop, replicate};
 ghost use lib.Ieee.{binary32, ofBits, toBits};
 ghost use Rattle.vmd_format.specs.Bytes.{u32, u32-bytes, before-zero, padded, is-set, flag-byte, is-zero, inverted-byte};
+ghost use Rattle.vmd_format.specs.Characters.{between};
 ghost use Rattle.vmd_format.specs.Take.{same};
 ghost use Rattle.vmd_format.specs.Parts.{finite};
 ghost use Rattle.vmd_bytes.specs.Slices.{splice, run};
@@ -56,6 +57,15 @@ pub fn smaller(a: u32, b: u32) -> u32
     ensures { λ r. ⌜ r ≡ min a b ⌝ }
 {
     if a < b { a } else { b }
+}
+
+pub fn between(low: u8, high: u8, b: u8) -> bool
+    ensures { λ r. ⌜ r ≡ between low high b ⌝ }
+{
+    if b < low {
+        return false;
+    }
+    b <= high
 }
 
 // ---- copies

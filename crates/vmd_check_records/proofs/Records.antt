@@ -142,11 +142,11 @@ module _ (s : List ℕ) (at : ℕ) {r : Bool} (e : r ≡ finite-words true 1 (dr
   unfolding need
   shadow-distance t = rw (← self-shadow-there s at, ← e, t)
 
--- ---- an IK state's check: t is its name
+-- ---- an IK state's check
 
-module _ (s : List ℕ) (at : ℕ) {t : List ℕ} {r : Bool} (n : t ≡ before-zero (take (at + 20 - at) (drop at s))) (e : r ≡ good t) where
+module _ (s : List ℕ) (at : ℕ) {r : Bool} (e : r ≡ good (before-zero (take (at + 20 - at) (drop at s)))) where
   name-is : r ≡ good (before-zero (take 20 (drop at s)))
-  name-is = e ∙ ap good (n ∙ ap (λ i. before-zero (take i (drop at s))) (add-sub-cancel-left at 20))
+  name-is = e ∙ ap (λ i. good (before-zero (take i (drop at s)))) (add-sub-cancel-left at 20)
 
   pub ik-passes : r ≡ true → passes ≡ ik-check (ik-state .decode (drop at s))
   ik-passes h = need-true name-not-good name-is h ∙ ik-there s at

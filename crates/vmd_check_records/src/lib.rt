@@ -13,6 +13,7 @@ ghost use lib.ListN.{length, drop};
 ghost use Rattle.vmd_format.specs.Records.{camera, light, self-shadow, ik-state};
 ghost use Rattle.vmd_format.specs.Read.{table};
 ghost use Rattle.vmd_format.specs.Parts.{each, records-of, camera-check, light-check, self-shadow-check, ik-check, property-check, is-got, frames, properties-of};
+ghost use Rattle.vmd_presence.specs.Presence.{Presence};
 ghost use Rattle.vmd_names.specs.Meaning.{check-of};
 ghost use Rattle.vmd_check_records.specs.Meaning.{frames-of};
 ghost use Rattle.vmd_check_records.specs.Stages.{finite-words, counted};
@@ -81,13 +82,13 @@ fn self_shadow_check(bytes: &[u8], at: usize) -> Check
     Check::Fails(VmdRefusal::SelfShadowUnfit)
 }
 
-// The name of an IK state ends before its first zero byte.
-fn ik_check(bytes: &[u8], at: usize) -> Check
+// The name of an IK state ends before its first zero byte. words is the presence table, here and below.
+fn ik_check(words: &[u32; vmd_presence::WORDS], bytes: &[u8], at: usize) -> Check
+    requires { ⌜ Presence (now words) ⌝ }
     requires { ⌜ at + 21 ≤ length (now bytes) ⌝ }
     ensures { λ r. ⌜ check-of r ≡ ik-check (ik-state .decode (drop at (now (bytes .entry)))) ⌝ }
 {
-    let name = vmd_bytes::trim_fixed_bytes(&bytes[at..at + VmdParsedIkState::NAME_WIDTH]);
-    if vmd_names::good_name(name) {
+    if vmd_names::good_field(words, &bytes[at..at + VmdParsedIkState::NAME_WIDTH]) {
         return Check::Passes;
     }
     Check::Fails(VmdRefusal::NameNotGood)
@@ -148,14 +149,20 @@ pub fn self_shadows_check(bytes: &[u8]) -> Check
 }
 
 // The names of n IK states one after another.
-fn ik_states_check(bytes: &[u8], place: usize, n: usize) -> Check
+fn ik_states_check(
+    words: &[u32; vmd_presence::WORDS],
+    bytes: &[u8],
+    place: usize,
+    n: usize,
+) -> Check
+    requires { ⌜ Presence (now words) ⌝ }
     requires { ⌜ place + n * 21 ≤ length (now bytes) ⌝ }
     ensures { λ r. ⌜ check-of r ≡ each ik-check (table ik-state n (drop place (now (bytes .entry)))) ⌝ }
 {
     let mut at = place;
     let mut left = n;
     while 0 < left {
-        match ik_check(bytes, at) {
+        match ik_check(words, bytes, at) {
             Check::Fails(k) => {
                 return Check::Fails(k);
             }
@@ -216,7 +223,8 @@ pub fn property_count(bytes: &[u8]) -> usize
 }
 
 // The IK names of the property frames in turn.
-pub fn properties_check(bytes: &[u8]) -> Check
+pub fn properties_check(words: &[u32; vmd_presence::WORDS], bytes: &[u8]) -> Check
+    requires { ⌜ Presence (now words) ⌝ }
     requires { ⌜ is-got (frames (now bytes)) ≡ true ⌝ }
     ensures { λ r. ⌜ check-of r ≡ each property-check (properties-of (now (bytes .entry))) ⌝ }
 {
@@ -224,7 +232,12 @@ pub fn properties_check(bytes: &[u8]) -> Check
     let mut left = property_count(bytes);
     while 0 < left {
         let states = vmd_bytes::read_u32_le(bytes, at + VmdParsedPropertyFrame::IK_COUNT_OFFSET);
-        match ik_states_check(bytes, at + VmdParsedPropertyFrame::SIZE, states as usize) {
+        match ik_states_check(
+            words,
+            bytes,
+            at + VmdParsedPropertyFrame::SIZE,
+            states as usize,
+        ) {
             Check::Fails(k) => {
                 return Check::Fails(k);
             }

@@ -5,6 +5,7 @@ ghost use mathlib.Core.Bool.{true};
 ghost use Prim.Native.Nat.{_+_, _<_};
 ghost use Rattle.vmd_format.specs.Parts.{name-check, table-right, names-of, each};
 ghost use Rattle.vmd_names.specs.Meaning.{check-of};
+ghost use Rattle.vmd_presence.specs.Presence.{Presence};
 ghost use Rattle.vmd_check_tables.specs.Meaning.{table-of};
 
 // ---- name tables
@@ -26,8 +27,14 @@ pub fn table_right(bytes: &[u8], ends: &[u32]) -> bool
     at == bytes.len()
 }
 
-// The names of a table in turn.
-pub fn names_check(bytes: &[u8], ends: &[u32], width: usize) -> Check
+// The names of a table in turn. words is the presence table.
+pub fn names_check(
+    words: &[u32; vmd_presence::WORDS],
+    bytes: &[u8],
+    ends: &[u32],
+    width: usize,
+) -> Check
+    requires { ⌜ Presence (now words) ⌝ }
     requires { ⌜ table-right (table-of (now bytes) (now ends)) ≡ true ⌝ }
     ensures { λ r. ⌜ check-of r ≡ each (name-check width) (names-of (table-of (now (bytes .entry)) (now (ends .entry)))) ⌝ }
 {
@@ -36,7 +43,7 @@ pub fn names_check(bytes: &[u8], ends: &[u32], width: usize) -> Check
     while i < ends.len() {
         let end = ends[i] as usize;
         let name = &bytes[at..end];
-        match vmd_names::name_check(name, width) {
+        match vmd_names::name_check(words, name, width) {
             Check::Fails(k) => {
                 return Check::Fails(k);
             }

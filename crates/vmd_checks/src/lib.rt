@@ -68,15 +68,18 @@ fn all_names_check(
     requires { ⌜ (table-right (table-of (now «bone_name_bytes») (now «bone_name_ends»)) ≡ true) × (table-right (table-of (now «morph_name_bytes») (now «morph_name_ends»)) ≡ true) ⌝ }
     ensures { λ r. ⌜ check-of r ≡ names-right (now («model_name» .entry)) (table-of (now («bone_name_bytes» .entry)) (now («bone_name_ends» .entry))) (table-of (now («morph_name_bytes» .entry)) (now («morph_name_ends» .entry))) ⌝ }
 {
-    match vmd_names::name_check(model_name, vmd_base::MODEL_WIDTH) {
+    let words = vmd_presence::presence();
+    match vmd_names::name_check(&words, model_name, vmd_base::MODEL_WIDTH) {
         Check::Fails(k) => Check::Fails(k),
         Check::Passes => match vmd_check_tables::names_check(
+            &words,
             bone_name_bytes,
             bone_name_ends,
             NAME_SIZE,
         ) {
             Check::Fails(k) => Check::Fails(k),
             Check::Passes => vmd_check_tables::names_check(
+                &words,
                 morph_name_bytes,
                 morph_name_ends,
                 NAME_SIZE,
@@ -95,13 +98,14 @@ fn records_check(
     requires { ⌜ is-got (frames (now «property_frames»)) ≡ true ⌝ }
     ensures { λ r. ⌜ check-of r ≡ records-right (now («camera_frames» .entry)) (now («light_frames» .entry)) (now («self_shadow_frames» .entry)) (now («property_frames» .entry)) ⌝ }
 {
+    let words = vmd_presence::presence();
     match vmd_check_records::cameras_check(camera_frames) {
         Check::Fails(k) => Check::Fails(k),
         Check::Passes => match vmd_check_records::lights_check(light_frames) {
             Check::Fails(k) => Check::Fails(k),
             Check::Passes => match vmd_check_records::self_shadows_check(self_shadow_frames) {
                 Check::Fails(k) => Check::Fails(k),
-                Check::Passes => vmd_check_records::properties_check(property_frames),
+                Check::Passes => vmd_check_records::properties_check(&words, property_frames),
             },
         },
     }

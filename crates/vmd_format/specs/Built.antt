@@ -172,6 +172,21 @@ pub seven : T (
 unfolding computed
 seven = tt
 
+-- whether 7 is given for a pair in a model name, a bone name, a morph name and an IK name
+abbrev paired : ℕ → ℕ → List Bool
+paired a b =
+    let pair = table (a ∷ b ∷ []) (2 ∷ []) in
+    names-refused (a ∷ b ∷ [], no-names, no-names) 7
+    ∷ names-refused ([], pair, no-names) 7
+    ∷ names-refused ([], no-names, pair) 7
+    ∷ records-refused ([], [], [], replicate 5 0 ++ u1 ++ (a ∷ b ∷ []) ++ replicate 19 0) 7
+    ∷ []
+
+-- a pair without a character, and one with a character (02 h)
+pub no-character : (paired 0x85 0x40 ≡ replicate 4 true) × (paired 0x83 0x41 ≡ replicate 4 false)
+unfolding computed
+no-character = (refl, refl)
+
 -- one bone with this name index and this translation
 abbrev one-bone : ℕ → List ℕ → Bones
 one-bone i t = (i ∷ [], 0 ∷ [], t, replicate 4 0, replicate 64 0)

@@ -8,6 +8,7 @@ pub mod Take
 pub mod Opening
 pub mod Fetch
 pub mod Join
+pub mod Characters
 pub mod Names
 pub mod Parts
 pub mod Computed

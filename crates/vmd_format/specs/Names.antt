@@ -1,12 +1,11 @@
--- The test of a name's bytes: document 01, "A name's bytes are good when they read left to right as ..". Definitions only.
+-- The test of a name's bytes: document 01, "A name's bytes are good when they read left to right as ..", with request h).
+-- Definitions only.
 use Prim.Native.Nat.{ℕ, zero, suc, _+_}
 use mathlib.Core.Bool.{Bool, _&&_, _||_, cond}
 use mathlib.Core.List.{List, [], _∷_}
 use lib.ListN.{length, drop}
 use lib.Dec.{leb, eqb}
-
-unfoldable pub between : ℕ → ℕ → ℕ → Bool
-between a b n = leb a n && leb n b
+use Rattle.vmd_format.specs.Characters.{between, pointer, character}
 
 -- "0x00 to 0x80, 0xA1 to 0xDF"
 unfoldable pub single : ℕ → Bool
@@ -20,9 +19,9 @@ lead b = between 129 159 b || between 224 252 b
 unfoldable pub trail : ℕ → Bool
 trail b = between 64 126 b || between 128 252 b
 
--- "or a pair of a lead and a trail"
+-- "or a pair of a lead and a trail"; "A pair now needs one [a character]" (02 h)
 unfoldable pub pair : ℕ → ℕ → Bool
-pair a b = lead a && trail b
+pair a b = lead a && (trail b && character (pointer a b))
 
 -- how many bytes the good single byte or the good pair at the front has, 0 where there is neither
 unfoldable pub unit : List ℕ → ℕ

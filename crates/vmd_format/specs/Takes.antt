@@ -1,14 +1,15 @@
--- The takes to try of document 01, and those of 02 c.
-use Prim.Native.Nat.{ℕ, _*_}
-use mathlib.Core.Bool.{Bool, false, _&&_, not}
+-- The takes to try of document 01, and those of 02 c and h.
+use Prim.Native.Nat.{ℕ, suc, _+_, _-_, _*_}
+use mathlib.Core.Bool.{Bool, true, false, _&&_, not}
 use mathlib.Core.List.{List, [], _∷_, _++_}
 use lib.ListN.{length, take, drop, replicate}
-use lib.Dec.{eqb, T}
+use lib.Dec.{leb, eqb, T}
 use Rattle.vmd_format.specs.Answer.{Answer, declined, given}
 use Rattle.vmd_format.specs.Read.{lenient}
 use Rattle.vmd_format.specs.Take.{Take, read-take, same}
 use Rattle.vmd_format.specs.Opening.{record-count, Opening, joined-smallest, open-file}
 use Rattle.vmd_format.specs.Join.{export-file, join-files}
+use Rattle.vmd_format.specs.Characters.{pointer, runs}
 use Rattle.vmd_format.specs.Names.{fault, good}
 use Rattle.vmd_format.specs.Computed.{computed, declines, bytes-of, start, fours, u0, u1, bone-bytes, one-each}
 
@@ -78,7 +79,7 @@ edges = tt
 pub name-edges : T (
     good []
     && good (0x00 ∷ 0x80 ∷ 0xA1 ∷ 0xDF ∷ [])
-    && good (0x81 ∷ 0x40 ∷ 0x9F ∷ 0x7E ∷ 0xE0 ∷ 0x80 ∷ 0xFC ∷ 0xFC ∷ [])
+    && good (0x81 ∷ 0x40 ∷ 0x9F ∷ 0x7E ∷ 0xE0 ∷ 0x80 ∷ 0xFC ∷ 0x4B ∷ 0x81 ∷ 0xFC ∷ [])
     && not (good (0x81 ∷ []))
     && not (good (0xE0 ∷ []))
     && not (good (0xFD ∷ 0x40 ∷ []))
@@ -88,6 +89,47 @@ pub name-edges : T (
     && not (good (0x41 ∷ 0x83 ∷ 0x41 ∷ 0x83 ∷ [])))
 unfolding computed
 name-edges = tt
+
+-- the pointers of the first and the last pair, and of those beside every gap among leads and trails
+pub pointers : T (
+    eqb (pointer 0x81 0x40) 0
+    && eqb (pointer 0x81 0x7E) 62
+    && eqb (pointer 0x81 0x80) 63
+    && eqb (pointer 0x81 0xFC) 187
+    && eqb (pointer 0x82 0x40) 188
+    && eqb (pointer 0x9F 0xFC) 5827
+    && eqb (pointer 0xE0 0x40) 5828
+    && eqb (pointer 0xFC 0xFC) 11279)
+unfolding computed
+pointers = tt
+
+-- each run begins past a gap after the one before it, and ends no earlier than it begins
+abbrev ascending : ℕ → List (ℕ × ℕ) → Bool
+ascending least [] = true
+ascending least (r ∷ l) = leb least (r .0) && (leb (r .0) (r .1) && ascending (r .1 + 2) l)
+
+abbrev pointers-in : List (ℕ × ℕ) → ℕ
+pointers-in [] = 0
+pointers-in (r ∷ l) = suc (r .1) - r .0 + pointers-in l
+
+-- the runs are ascending, none can be joined to the next; the index has 7,724 pointers in 24 runs
+pub runs-ascending : T (ascending 0 runs && eqb (length runs) 24 && eqb (pointers-in runs) 7724)
+unfolding computed
+runs-ascending = tt
+
+-- "the pair 0x85 0x40": no character, and its lead's place; the pairs at both ends of the range 8836 to 10715 and beside it (the
+-- one after it is in the index), the last of the index and the one after it; a byte order mark, 0xEF 0xBB 0xBF
+pub pairs : T (
+    not (good (0x85 ∷ 0x40 ∷ []))
+    && eqb (fault (0x41 ∷ 0x83 ∷ 0x41 ∷ 0x85 ∷ 0x40 ∷ [])) 3
+    && not (good (0xEF ∷ 0xFC ∷ []))
+    && good (0xF0 ∷ 0x40 ∷ 0xF9 ∷ 0xFC ∷ 0xFA ∷ 0x40 ∷ 0xFC ∷ 0x4B ∷ [])
+    && not (good (0xFC ∷ 0x4C ∷ []))
+    && good (0x81 ∷ 0xAC ∷ [])
+    && not (good (0x81 ∷ 0xAD ∷ []))
+    && not (good (0xEF ∷ 0xBB ∷ 0xBF ∷ 0xBD ∷ [])))
+unfolding computed
+pairs = tt
 
 -- the place of the first fault: a pair's is that of its lead, of two the first counts, and where all is good it is the length
 pub fault-places : T (

@@ -4,7 +4,7 @@
 use Prim.Native.Nat.{ℕ, zero, suc, _+_, _≤_, _<_}
 use mathlib.Core.Path.{_≡_, refl, ap, sym, _∙_, subst}
 use mathlib.Core.Logic.{_↔_, _⊎_, inl, inr}
-use mathlib.Core.Bool.{Bool, true, false, _||_, _&&_, and-eq-true-iff}
+use mathlib.Core.Bool.{Bool, true, false, _&&_, and-eq-true-iff}
 use mathlib.Core.List.{List, [], _∷_, _++_, map, append-nil}
 use native.Mathlib.Omega.{arith}
 use borrow.Author.Tests.{eqb-true, eqb-false, eq-eqb, ne-eqb, leb-true, le-leb, lt-leb}
@@ -15,7 +15,9 @@ use Rattle.vmd_format.specs.Bytes.{before-zero}
 use Rattle.vmd_format.specs.Refusal.{Refusal, name-unfit, name-not-good}
 use Rattle.vmd_laws.specs.ReadLaws.{All}
 use Rattle.vmd_format.specs.Records.{IkState}
-use Rattle.vmd_format.specs.Names.{between, single, lead, trail, pair, unit, fault, good}
+use Rattle.vmd_format.specs.Characters.{between, pointer, character}
+use Rattle.vmd_format.specs.Names.{single, lead, trail, pair, unit, fault, good}
+use Rattle.vmd_laws.specs.CharacterLaws.{either-range, pair-is}
 use Rattle.vmd_laws.specs.NamesLaws.{unit-end, unit-single, unit-cut, unit-two, fault-none, fault-unit}
 use Rattle.vmd_format.specs.Parts.{Parts, names-of, Check, passes, fails, _next_, need, each, whole-parts, name-check, ik-check, parts-check}
 use Rattle.vmd_laws.specs.PartsLaws.{next-assoc, each-mapped, before-zero-all}
@@ -39,19 +41,17 @@ pub record FirstFault (s : List ℕ) (i : ℕ) : Type 0 where
   pub before : Units (take i s)
   pub stops : Starts (drop i s) → ⊥
 
-between-true : (a b n : ℕ) → between a b n ≡ true → (a ≤ n) × (n ≤ b)
-unfolding between
-between-true a b n e = let p = and-eq-true-iff (leb a n) (leb n b) .0 e in (leb-true a n (p .0), leb-true n b (p .1))
+lead-single : (a : ℕ) → lead a ≡ true → single a ≡ false
+unfolding lead single between
+lead-single a e = go (either-range 129 159 224 252 a e)
+  where
+    go : ((129 ≤ a) × (a ≤ 159)) ⊎ ((224 ≤ a) × (a ≤ 252)) → single a ≡ false
+    go (inl h) = rw (lt-leb a 128 (omega arith), lt-leb 161 a (omega arith))
+    go (inr h) = rw (lt-leb a 128 (omega arith), lt-leb a 223 (omega arith), le-leb 161 a (omega arith))
 
 -- a lead is no single byte
 pair-single : (a b : ℕ) → pair a b ≡ true → single a ≡ false
-unfolding pair lead single between
-pair-single a b e = go (between 129 159 a) (between 224 252 a) refl refl (and-eq-true-iff (lead a) (trail b) .0 e .0)
-  where
-    go : (x y : Bool) → between 129 159 a ≡ x → between 224 252 a ≡ y → (x || y) ≡ true → single a ≡ false
-    go true y p q r = let h = between-true 129 159 a p in rw (lt-leb a 128 (omega arith), lt-leb 161 a (omega arith))
-    go false true p q r = let h = between-true 224 252 a q in rw (lt-leb a 128 (omega arith), lt-leb a 223 (omega arith), le-leb 161 a (omega arith))
-    go false false p q r = let z : _≡_ {A = ℕ} 0 1 = cc in absurd (omega arith)
+pair-single a b e = lead-single a (pair-is a b .0 e .0)
 
 unit-pair : (a b : ℕ) (s : List ℕ) → pair a b ≡ true → unit (a ∷ b ∷ s) ≡ 2
 unit-pair a b s h = rw h at (unit-two (a ∷ b ∷ s) 0 (omega arith) (pair-single a b h))
@@ -126,6 +126,19 @@ fault-decides p a b s t e =
     let f = first-fault (p ++ a ∷ b ∷ s) (length p) .0 e in
     let h : unit (a ∷ b ∷ s) ≡ 0 = none-starts (a ∷ b ∷ s) (rw (drop-append-seam p (a ∷ b ∷ s)) at (f .stops)) in
     omega (arith, units-over (rw (take-append-seam p (a ∷ b ∷ s)) at (f .before)) (a ∷ b ∷ t), fault-none (a ∷ b ∷ t) h)
+
+-- "Refusal 7 covers the rest": a lead and a trail without a character are a fault, at the lead's place (02 h)
+pub no-character : {t : List ℕ} → Units t → (a b : ℕ) (s : List ℕ) → lead a ≡ true → character (pointer a b) ≡ false
+    → fault (t ++ a ∷ b ∷ s) ≡ length t
+unfolding pair
+no-character r a b s l e =
+    let p : pair a b ≡ false = rw (l, e) (and-false (trail b)) in
+    let h : unit (a ∷ b ∷ s) ≡ 0 = rw p at (unit-two (a ∷ b ∷ s) 0 (omega arith) (lead-single a l)) in
+    omega (arith, units-over r (a ∷ b ∷ s), fault-none (a ∷ b ∷ s) h)
+  where
+    and-false : (x : Bool) → (x && false) ≡ false
+    and-false true = refl
+    and-false false = refl
 
 -- a good name is good single bytes and good pairs to its end
 pub good-units : (s : List ℕ) → (good s ≡ true) ↔ Units s

@@ -20,6 +20,7 @@ pub mod FetchLaws
 pub mod FrameLaws
 pub mod PartsLaws
 pub mod NamesLaws
+pub mod CharacterLaws
 pub mod FaultLaws
 pub mod Lengths
 pub mod ExportLaws

@@ -19,7 +19,8 @@ use Rattle.vmd_laws.specs.InsideLaws.{opened-scan}
 use Rattle.vmd_laws.specs.RefusalLaws.{Refuses, reading-numbers, enough-refuses}
 use Rattle.vmd_laws.specs.ExportLaws.{take-in, export-by-places, scan-scanned, scan-counts, scan-length}
 use Rattle.vmd_format.specs.Computed.{computed, start, u0}
-use Rattle.vmd_line.specs.Line.{tens-if, digits, decimal, spaced, row, too-long, refused-line, export-size, numbers, line-of, line-if, line, line-scratch-if, line-scratch}
+use Rattle.vmd_text.specs.Text.{tens-if, digits, decimal}
+use Rattle.vmd_line.specs.Line.{spaced, row, too-long, refused-line, export-size, numbers, line-of, line-if, line, line-scratch-if, line-scratch}
 
 -- ---- which line
 

@@ -1,31 +1,18 @@
 -- The line that vmd-list prints for a file: document 01, "Takes to try". Definitions only.
-use Prim.Native.Nat.{ℕ, zero, suc, _+_, _/_, _%_}
+use Prim.Native.Nat.{ℕ}
 use mathlib.Core.Bool.{Bool, true, false}
 use mathlib.Core.List.{List, [], _∷_, _++_}
 use lib.ListN.{length}
-use lib.Dec.{leb, ltb}
+use lib.Dec.{leb}
 use Rattle.vmd_format.specs.Refusal.{number}
 use Rattle.vmd_format.specs.Answer.{Answer, declined, given}
 use Rattle.vmd_format.specs.Read.{Manner}
 use Rattle.vmd_format.specs.Opening.{Scan, Opening, open-file, scratch-after}
 use Rattle.vmd_format.specs.Take.{newer}
 use Rattle.vmd_format.specs.Join.{file-length}
+use Rattle.vmd_text.specs.Text.{decimal}
 
--- ---- numbers in ASCII
-
--- the digits before the last: none where the number is below ten
-unfoldable pub tens-if : Bool → List ℕ → List ℕ
-tens-if true l = []
-tens-if false l = l
-
--- the decimal digits of n, the most significant first, at most so many
-unfoldable pub digits : ℕ → ℕ → List ℕ
-digits zero n = []
-digits (suc most) n = tens-if (ltb n 10) (digits most (n / 10)) ++ ((48 + n % 10) ∷ [])
-
--- all of them: "0" for 0, and no leading zeros
-unfoldable pub decimal : ℕ → List ℕ
-decimal n = digits (suc n) n
+-- ---- rows of numbers
 
 -- each number after a space
 unfoldable pub spaced : List ℕ → List ℕ

@@ -6,64 +6,31 @@ use vmd_reader::VmdOpened;
 use vmd_reader::VmdOpening;
 use vmd_scan::VmdSections;
 ghost use mathlib.Core.Path.{_≡_};
-ghost use Prim.Native.Nat.{_+_, _%_, _≤_};
+ghost use Prim.Native.Nat.{_≤_};
 ghost use lib.ListN.{length};
 ghost use Rattle.vmd_format.specs.Read.{lenient};
 ghost use Rattle.vmd_base.specs.Meaning.{manner-of};
 ghost use Rattle.vmd_bytes.specs.Slices.{splice};
-ghost use Rattle.vmd_bytes.specs.Written.{Room, Wrote};
+ghost use Rattle.vmd_bytes.specs.Written.{Wrote};
 ghost use Rattle.vmd_scan.specs.Meaning.{scan-is};
 ghost use Rattle.vmd_reader.specs.Meaning.{opening-is};
-ghost use Rattle.vmd_line.specs.Line.{decimal, row, refused-line, export-size, numbers, line, line-scratch};
+ghost use Rattle.vmd_line.specs.Line.{row, refused-line, export-size, numbers, line, line-scratch};
 
 // The longest file that is listed.
 const MOST_BYTES: usize = 65536;
 
 const LINE_SIZE: usize = 256;
 
-// The last digit of n, in ASCII.
-fn digit(n: u64) -> u8
-    ensures { λ r. ⌜ r ≡ 48 + n % 10 ⌝ }
-{
-    48 + (n % 10) as u8
-}
-
-// Writes n in decimal into out from `to` on, and returns the place after it.
-fn write_decimal(out: &mut [u8], to: usize, n: u64) -> usize
-    requires { ⌜ to + 20 ≤ length (now out) ⌝ }
-    ensures { λ r. ⌜ Wrote (now (out .entry)) to (decimal n) (now (out .exit)) r ⌝ }
-    ensures { λ r. ⌜ r ≤ to + 20 ⌝ }
-{
-    if n < 10 {
-        out[to] = digit(n);
-        return to + 1;
-    }
-    let tens = n / 10;
-    let at = write_decimal(out, to, tens);
-    out[at] = digit(n);
-    at + 1
-}
-
-// Writes text into out from `to` on, and returns the place after it.
-fn write_text(out: &mut [u8], to: usize, text: &[u8]) -> usize
-    requires { ⌜ Room (now out) to (now text) ⌝ }
-    ensures { λ r. ⌜ Wrote (now (out .entry)) to (now (text .entry)) (now (out .exit)) r ⌝ }
-{
-    let n = text.len();
-    vmd_bytes::copy_bytes(text, 0, out, to, n);
-    to + n
-}
-
 // Writes ten numbers with single spaces between them and a line feed, and returns their length.
 fn write_row(out: &mut [u8], numbers: &[u64]) -> usize
     requires { ⌜ (length (now out) ≡ 256) × (length (now numbers) ≡ 10) ⌝ }
     ensures { λ r. ⌜ Wrote (now (out .entry)) 0 (row (now (numbers .entry))) (now (out .exit)) r ⌝ }
 {
-    let mut at = write_decimal(out, 0, numbers[0]);
+    let mut at = vmd_text::write_decimal(out, 0, numbers[0]);
     let mut i = 1;
     while i < 10 {
         out[at] = b' ';
-        at = write_decimal(out, at + 1, numbers[i]);
+        at = vmd_text::write_decimal(out, at + 1, numbers[i]);
         i += 1;
     }
     out[at] = b'\n';
@@ -75,9 +42,9 @@ fn write_refused(out: &mut [u8], number: u32) -> usize
     requires { ⌜ length (now out) ≡ 256 ⌝ }
     ensures { λ r. ⌜ Wrote (now (out .entry)) 0 (refused-line number) (now (out .exit)) r ⌝ }
 {
-    let at = write_text(out, 0, b"refused ");
-    let end = write_decimal(out, at, number as u64);
-    write_text(out, end, b"\n")
+    let at = vmd_text::write_text(out, 0, b"refused ");
+    let end = vmd_text::write_decimal(out, at, number as u64);
+    vmd_text::write_text(out, end, b"\n")
 }
 
 // How long the export is. Few IK states, so that there is such a length.
@@ -130,7 +97,7 @@ fn write_line(file: &[u8], manner: VmdManner, scratch: &mut [u64], out: &mut [u8
     ensures { λ _. ⌜ now (scratch .exit) ≡ line-scratch (manner-of manner) (now (file .entry)) (now (scratch .entry)) ⌝ }
 {
     if MOST_BYTES < file.len() {
-        return write_text(out, 0, b"too long\n");
+        return vmd_text::write_text(out, 0, b"too long\n");
     }
     match vmd_reader::open_file(file, manner, scratch) {
         VmdOpened::Refused(k) => write_refused(out, k.number()),

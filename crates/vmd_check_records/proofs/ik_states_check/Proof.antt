@@ -11,10 +11,10 @@ use Rattle.vmd_check_records.proofs.ik_states_check.Statement.{statemen
 use Rattle.vmd_check_records.proofs.ik_states_check.Tie as tie
 
 abbrev Inv-loop : tie.InvT-loop
-Inv-loop bytes place n at₀ left₀ at left = Checking ik-state 21 ik-check bytes place n at left
+Inv-loop words bytes place n at₀ left₀ at left = Checking ik-state 21 ik-check bytes place n at left
 
 abbrev μ-loop : tie.MeasureT-loop
-μ-loop bytes place n at₀ left₀ at left = left
+μ-loop words bytes place n at₀ left₀ at left = left
 
 returns : tie.Need-returns Inv-loop μ-loop
 returns c =
@@ -28,4 +28,4 @@ loop-again c =
 
 pub ik-states-check-spec : {M : Type 1} → statement M
 ik-states-check-spec =
-    tie.close (tie.spec Inv-loop μ-loop (λ c. checking-start (omega arith)) (λ c κs. checking-lies ik-state-sized (c .before .loop .inv) (omega arith)) (λ c. search needs) returns (λ c. search needs) (λ c. omega (arith, checking-lies ik-state-sized (c .before .before .before .before .loop .inv) (omega arith))) (λ c. omega arith) (λ c. omega arith) loop-again (λ c. checking-end ik-state-sized (c .before .loop .inv) (omega arith)))
+    tie.close (tie.spec Inv-loop μ-loop (λ c. checking-start (omega arith)) (λ c κs. (c .before .before .before .pre .0, checking-lies ik-state-sized (c .before .loop .inv) (omega arith))) (λ c. search needs) returns (λ c. search needs) (λ c. omega (arith, checking-lies ik-state-sized (c .before .before .before .before .loop .inv) (omega arith))) (λ c. omega arith) (λ c. omega arith) loop-again (λ c. checking-end ik-state-sized (c .before .loop .inv) (omega arith)))

@@ -9,14 +9,14 @@ use Rattle.vmd_check_records.proofs.properties_check.Statement.{stateme
 use Rattle.vmd_check_records.proofs.properties_check.Tie as tie
 
 abbrev Inv-loop : tie.InvT-loop
-Inv-loop bytes at₀ left₀ at left = Framing bytes at left
+Inv-loop words bytes at₀ left₀ at left = Framing bytes at left
 
 abbrev μ-loop : tie.MeasureT-loop
-μ-loop bytes at₀ left₀ at left = left
+μ-loop words bytes at₀ left₀ at left = left
 
 ik-states-check-requires : tie.Need-ik-states-check-requires Inv-loop μ-loop
 ik-states-check-requires c κs =
-    omega (arith, framing-lies (c .before .before .loop .inv) (omega arith), c .read-u32-le .ensures)
+    (c .before .before .before .before .before .pre .0, omega (arith, framing-lies (c .before .before .loop .inv) (omega arith), c .read-u32-le .ensures))
 
 next-property-frame-requires : tie.Need-next-property-frame-requires Inv-loop μ-loop
 unfolding next-frame
@@ -35,7 +35,7 @@ loop-again c =
 
 pub properties-check-spec : {M : Type 1} → statement M
 properties-check-spec =
-    tie.close (tie.spec Inv-loop μ-loop (λ c κs. search needs) (λ c. framing-start (c .before .before .pre) (c .property-count .ensures))
+    tie.close (tie.spec Inv-loop μ-loop (λ c κs. search needs) (λ c. framing-start (c .before .before .pre .1) (c .property-count .ensures))
     (λ c. omega (arith, framing-lies (c .before .loop .inv) (omega arith))) (λ c κs. omega (arith, framing-lies (c .before .loop .inv) (omega arith)))
     (λ c. omega (arith, framing-lies (c .before .before .loop .inv) (omega arith))) (λ c. search needs) ik-states-check-requires (λ c. search needs) returns (λ c. search needs)
     next-property-frame-requires (λ c. omega arith) (λ c. omega arith) loop-again (λ c. framing-end (c .before .loop .inv) (omega arith)))

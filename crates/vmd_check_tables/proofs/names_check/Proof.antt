@@ -11,10 +11,10 @@ use Rattle.vmd_check_tables.proofs.names_check.Statement.{statement}
 use Rattle.vmd_check_tables.proofs.names_check.Tie as tie
 
 abbrev Inv-loop : tie.InvT-loop
-Inv-loop bytes ends width at₀ i₀ at i = Naming (name-check width) bytes ends at i
+Inv-loop words bytes ends width at₀ i₀ at i = Naming (name-check width) bytes ends at i
 
 abbrev μ-loop : tie.MeasureT-loop
-μ-loop bytes ends width at₀ i₀ at i = length ends - i
+μ-loop words bytes ends width at₀ i₀ at i = length ends - i
 
 cast-end : tie.Need-cast-end Inv-loop μ-loop
 cast-end c = omega (arith, c .shared-slice-known3 .given (c .before .before .loop .i))
@@ -43,4 +43,4 @@ returns-2 c = naming-end (c .before .loop .inv) (c .loop-test .left)
 
 pub names-check-spec : {M : Type 1} → statement M
 names-check-spec =
-    tie.close (tie.spec Inv-loop μ-loop (λ c. naming-start (c .before .before .pre)) (λ c. search needs) (λ c. search needs) cast-end sub-name part-name-start part-name-end (λ c κs. search needs) (λ c. search needs) returns (λ c. search needs) (λ c. search needs) (λ c. search needs) loop-again returns-2)
+    tie.close (tie.spec Inv-loop μ-loop (λ c. naming-start (c .before .before .pre .1)) (λ c. search needs) (λ c. search needs) cast-end sub-name part-name-start part-name-end (λ c κs. search needs) (λ c. search needs) returns (λ c. search needs) (λ c. search needs) (λ c. search needs) loop-again returns-2)

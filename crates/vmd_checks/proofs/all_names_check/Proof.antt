@@ -17,18 +17,18 @@ returns-2 : tie.Need-returns-2
 unfolding names-right
 returns-2 c =
     let b = c .before .before .before in
-    let m = b .before .before .before in
-    chain-on _ (m .name-check .ensures) (ap check-of (b .before .enum-told .given .1))
+    let m = b .before .before .before .before in
+    chain-on _ (m .name-check .ensures) (ap check-of (b .before .before .enum-told .given .1))
     (chain-fails _ (b .names-check .ensures) (ap check-of (c .before .k2 .given .1)))
 
 returns-3 : tie.Need-returns-3
 unfolding names-right
 returns-3 c =
-    let b = c .before .before .before in
-    let m = b .before .before .before in
-    chain-on _ (m .name-check .ensures) (ap check-of (b .before .enum-told .given .1))
-    (chain-on _ (b .names-check .ensures) (ap check-of (c .before .enum-told2 .given .1)) (c .names-check2 .ensures))
+    let b = c .before .before .before .before in
+    let m = b .before .before .before .before in
+    chain-on _ (m .name-check .ensures) (ap check-of (b .before .before .enum-told .given .1))
+    (chain-on _ (b .names-check .ensures) (ap check-of (c .before .before .enum-told2 .given .1)) (c .names-check2 .ensures))
 
 pub all-names-check-spec : {M : Type 1} → statement M
 all-names-check-spec =
-    tie.close (tie.spec (λ c κs. search needs) (λ c. search needs) (λ c. search needs) (λ c κs. search needs) (λ c. search needs) (λ c. search needs) (λ c κs. search needs) returns returns-2 returns-3)
+    tie.close (tie.spec (λ c κs. search needs) (λ c κs. search needs) (λ c. search needs) (λ c. search needs) (λ c κs. search needs) (λ c. search needs) (λ c. search needs) (λ c κs. search needs) returns returns-2 returns-3)

@@ -30,12 +30,12 @@ returns-3 c =
 returns-4 : tie.Need-returns-4
 unfolding records-right
 returns-4 c =
-    let s = c .before .before .before in
+    let s = c .before .before .before .before in
     let l = s .before .before .before in
     chain-on _ (l .before .before .before .cameras-check .ensures) (ap check-of (l .before .enum-told .given .1))
     (chain-on _ (l .lights-check .ensures) (ap check-of (s .before .enum-told2 .given .1))
-    (chain-on _ (s .self-shadows-check .ensures) (ap check-of (c .before .enum-told3 .given .1)) (c .properties-check .ensures)))
+    (chain-on _ (s .self-shadows-check .ensures) (ap check-of (c .before .before .enum-told3 .given .1)) (c .properties-check .ensures)))
 
 pub records-check-spec : {M : Type 1} → statement M
 records-check-spec =
-    tie.close (tie.spec (λ c κs. search needs) (λ c. search needs) (λ c. search needs) (λ c κs. search needs) (λ c. search needs) (λ c. search needs) (λ c κs. search needs) (λ c. search needs) (λ c. search needs) (λ c κs. search needs) returns returns-2 returns-3 returns-4)
+    tie.close (tie.spec (λ c κs. search needs) (λ c κs. search needs) (λ c. search needs) (λ c. search needs) (λ c κs. search needs) (λ c. search needs) (λ c. search needs) (λ c κs. search needs) (λ c. search needs) (λ c. search needs) (λ c κs. search needs) returns returns-2 returns-3 returns-4)

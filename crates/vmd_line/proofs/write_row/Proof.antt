@@ -8,7 +8,8 @@ use Rattle.vmd_bytes.specs.Slices.{run}
 use Rattle.vmd_bytes.specs.Written.{Wrote}
 use Rattle.vmd_bytes.proofs.Laws.{part-zero}
 use Rattle.vmd_line.specs.Line.{spaced}
-use Rattle.vmd_line.proofs.Laws.{wrote-none, row-turn, row-done}
+use Rattle.vmd_text.proofs.Laws.{wrote-none}
+use Rattle.vmd_line.proofs.Laws.{row-turn, row-done}
 use Rattle.vmd_line.proofs.write_row.Statement.{statement}
 use Rattle.vmd_line.proofs.write_row.Tie as tie
 

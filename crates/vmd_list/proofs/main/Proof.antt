@@ -1,6 +1,6 @@
 -- `vmd_list::main` meets its contract: the line lies in the array that it is written to. Assumes nothing.
 use borrow.Author.Needs.{needs}
-use Rattle.vmd_line.proofs.Laws.{front-fits}
+use Rattle.vmd_text.proofs.Laws.{front-fits}
 use Rattle.vmd_list.proofs.main.Statement.{statement}
 use Rattle.vmd_list.proofs.main.Tie as tie
 

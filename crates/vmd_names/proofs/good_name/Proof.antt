@@ -6,7 +6,7 @@ use Rattle.vmd_names.proofs.good_name.Tie as tie
 
 returns : tie.Need-returns
 unfolding good
-returns c = rw (c .first-fault .ensures)
+returns c = rw (c .fault-by .ensures)
 
 pub good-name-spec : {M : Type 1} → statement M
 good-name-spec =

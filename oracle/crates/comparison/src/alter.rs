@@ -57,6 +57,13 @@ pub enum Alter {
     BuildInRefusal,
     NameTest,
     NamePlace,
+    NamePairAccepted,
+    NamePairRefused,
+    NameRangeRefused,
+    NamePairPlace,
+    BuildPairAccepted,
+    BuildPairRefused,
+    BuildRangeRefused,
     SplitSizes,
     SplitRefusal,
     SplitInRefusal,
@@ -135,7 +142,7 @@ pub enum Alter {
     TidyDropped,
 }
 
-pub const ALTERATIONS: [Alter; 127] = [
+pub const ALTERATIONS: [Alter; 134] = [
     Alter::OpeningRefusal,
     Alter::OpeningCount,
     Alter::OpeningPlace,
@@ -187,6 +194,13 @@ pub const ALTERATIONS: [Alter; 127] = [
     Alter::BuildInRefusal,
     Alter::NameTest,
     Alter::NamePlace,
+    Alter::NamePairAccepted,
+    Alter::NamePairRefused,
+    Alter::NameRangeRefused,
+    Alter::NamePairPlace,
+    Alter::BuildPairAccepted,
+    Alter::BuildPairRefused,
+    Alter::BuildRangeRefused,
     Alter::SplitSizes,
     Alter::SplitRefusal,
     Alter::SplitInRefusal,

@@ -6,7 +6,7 @@ use crate::header;
 use crate::header::indices::{VMD_TOTAL_IK_STATES, VMD_TOTAL_LARGEST_FRAME, VMD_TOTAL_SMALLEST_FRAME};
 use mmd_anim_format::vmd::VmdParsedMorphFrame;
 use oracle::files::{Pieces, MAGIC};
-use oracle::names::is_lead;
+use oracle::names::{self, has_character, is_lead, is_trail, BESIDE_THE_INDEX, RUNS};
 use oracle::older::{is_older, NARROWER, OLDER_MAGIC};
 use oracle::original::{self, SCRATCH_TOO_SHORT};
 use oracle::parts::{Columns, Parts};
@@ -659,11 +659,48 @@ pub fn first_fault(name: &[u8]) -> usize {
     if altered(Alter::NamePlace) && place + 1 < name.len() && is_lead(name[place]) {
         return place + 1;
     }
+    if let Some(is_good_pair) = other_pairs([Alter::NamePairAccepted, Alter::NamePairRefused, Alter::NameRangeRefused]) {
+        return names::first_fault_with(name, is_good_pair);
+    }
+    if altered(Alter::NamePairPlace) && matches!(name[place..], [a, b, ..] if is_lead(a) && is_trail(b)) {
+        return place + 1;
+    }
     place
 }
 
+/// The pairs that an altered library takes for good ones: 0x85 0x40 too, all but the last of the index, those of the index alone.
+fn other_pairs([accepted, refused, range_refused]: [Alter; 3]) -> Option<fn(usize) -> bool> {
+    if altered(accepted) {
+        Some(|pair| pair == names::pointer(0x85, 0x40) || has_character(pair))
+    } else if altered(refused) {
+        Some(|pair| pair != RUNS[RUNS.len() - 1].1 && has_character(pair))
+    } else if altered(range_refused) {
+        Some(|pair| !BESIDE_THE_INDEX.contains(&pair) && has_character(pair))
+    } else {
+        None
+    }
+}
+
+/// The parts with names that are good, or not, where an altered library would take them so.
+fn judged(parts: &Parts) -> Cow<'_, Parts> {
+    match other_pairs([Alter::BuildPairAccepted, Alter::BuildPairRefused, Alter::BuildRangeRefused]) {
+        Some(is_good_pair) if parts.are_whole() => Cow::Owned(parts.with_names(|name| judged_name(name, is_good_pair))),
+        _ => Cow::Borrowed(parts),
+    }
+}
+
+fn judged_name(name: &[u8], is_good_pair: fn(usize) -> bool) -> Vec<u8> {
+    let good = names::first_fault_with(name, is_good_pair) == name.len();
+    if good == (names::first_fault(name) == name.len()) {
+        return name.to_vec();
+    }
+    let judged = if good { b'A' } else { 0xa0 };
+    name.iter().map(|&b| if b == 0 { 0 } else { judged }).collect()
+}
+
 #[rustfmt::skip]
-pub fn build_size(p: &Parts, c: Columns, size: &mut u64) -> u32 {
+pub fn build_size(parts: &Parts, c: Columns, size: &mut u64) -> u32 {
+    let p = judged(parts);
     unsafe {
         header::vmd_build_size(
             pointer(&p.model_name), p.model_name.len(),
@@ -689,7 +726,8 @@ pub fn build_size(p: &Parts, c: Columns, size: &mut u64) -> u32 {
 }
 
 #[rustfmt::skip]
-pub fn build_animation_from_parts(p: &Parts, c: Columns, out: &mut [u8], written: &mut u64) -> u32 {
+pub fn build_animation_from_parts(parts: &Parts, c: Columns, out: &mut [u8], written: &mut u64) -> u32 {
+    let p = judged(parts);
     let answer = unsafe {
         header::vmd_build_animation_from_parts(
             pointer(&p.model_name), p.model_name.len(),

@@ -4,6 +4,8 @@
 //!                             older files and names, N / 5 takes to tidy, N / 20 files of up to 70 property frames and
 //!                             N / 100 older ones, beside the fixed inputs
 //!     compare self-test       alters one result after another: each has to be reported
+//!
+//! The working directory is the repository, whose table of request h) is compared too.
 
 mod alter;
 mod check;
@@ -22,6 +24,7 @@ mod tally;
 mod tidy;
 
 use alter::{alter, Alter, ALTERATIONS};
+use std::path::Path;
 use std::process::ExitCode;
 use std::time::Instant;
 use tally::Tally;
@@ -48,10 +51,14 @@ fn timed<T>(what: &str, run: impl FnOnce() -> T) -> T {
 
 fn compare(cases: u64, seed: u64) -> ExitCode {
     println!("seed {seed}");
-    let (names, short_names, random_names) = timed("names", || runs::names(cases / 10, seed));
+    let index = oracle::index::check(Path::new("."));
+    index.print();
+    let (names, found) = timed("names", || runs::names(cases / 10, seed));
     names.print();
-    print_names("one and two bytes", &short_names);
-    print_names("random", &random_names);
+    print_names(&found);
+    let (triples, found) = timed("names of three bytes", runs::triples);
+    triples.print();
+    print_names(&found);
     let (files, file_check) = timed("files", || runs::files(cases, seed));
     files.print();
     print_files(&file_check);
@@ -65,15 +72,15 @@ fn compare(cases: u64, seed: u64) -> ExitCode {
     older_joins.print();
     let (parts, parts_check) = timed("parts", || runs::parts(cases, seed));
     parts.print();
-    print_outside(&parts_check.outside);
+    print_marked(&parts_check.marked);
     let huge = timed("counts at 32 bits", huge::run);
     huge.print();
     let (tidying, tidy_check) = timed("tidying", || runs::tidying(cases / 5, seed));
     tidying.print();
     print_tidied(&tidy_check.tally);
-    let tallies = [&names, &files, &older, &joins, &older_joins, &parts, &huge, &tidying];
+    let tallies = [&names, &triples, &files, &older, &joins, &older_joins, &parts, &huge, &tidying];
     let cases: u64 = tallies.iter().map(|tally| tally.cases()).sum();
-    let differences: usize = tallies.iter().map(|tally| tally.differences.len()).sum();
+    let differences: usize = tallies.iter().map(|tally| tally.differences.len()).sum::<usize>() + index.differences.len();
     println!("{cases} cases, {} of them older files, {differences} differences", older_check.editions.older);
     if differences == 0 {
         ExitCode::SUCCESS
@@ -82,14 +89,18 @@ fn compare(cases: u64, seed: u64) -> ExitCode {
     }
 }
 
-fn print_names(label: &str, tally: &name_test::NameTally) {
-    println!("  {label}, inside the domain: {} accepted and {} refused by both", tally.accepted, tally.refused);
-    println!(
-        "    a pair without a character: the original answers otherwise for {}, alike for {}",
-        tally.pairs_other, tally.pairs_alike
-    );
-    println!("    a byte order mark: the original answers otherwise for {}, alike for {}", tally.marks_other, tally.marks_alike);
-    println!("    the place as the decoder has it: {}, of these {} before the end", tally.places, tally.faults);
+fn print_names(tallies: &runs::NameTallies) {
+    for (label, tally) in tallies {
+        println!("  {label}: {} accepted and {} refused by both", tally.accepted, tally.refused);
+        println!("    {} places before the end; {} names with a zero byte, by the place alone", tally.faults, tally.with_zero);
+        for (mark, found) in &tally.marks {
+            let shortest = found.shortest.iter().map(|name| format!("; the shortest {name:02x?}")).collect::<String>();
+            println!(
+                "    {mark:02x?} first: the original answers otherwise for {}, alike for {}{shortest}",
+                found.other, found.alike
+            );
+        }
+    }
 }
 
 fn print_files(check: &files::FileCheck) {
@@ -119,10 +130,11 @@ fn print_lights(check: &files::FileCheck) {
 
 fn print_splits(check: &split::SplitCheck) {
     let (built, here) = (check.built, check.built_here);
-    println!("  parts of files: from {built} the original builds the file's export, from {here} in the domain the library too");
+    println!("  parts of files: from {built} the original builds the file's export, from {here} without a byte order mark");
+    println!("    the library too, which refuses the others with 7");
     let refused = (1..14).filter(|&number| check.not_built[number] > 0);
     let refused: Vec<String> = refused.map(|number| format!("{} with {number}", check.not_built[number])).collect();
-    println!("    it refuses {}", if refused.is_empty() { "none".to_owned() } else { refused.join(", ") });
+    println!("    the original refuses {}", if refused.is_empty() { "none".to_owned() } else { refused.join(", ") });
 }
 
 fn print_seasons(check: &season::SeasonCheck) {
@@ -139,13 +151,13 @@ fn print_tidied(tally: &tidy::TidyTally) {
     println!("    {} tracks with {} records kept and {} dropped", tally.tracks, tally.kept, tally.dropped);
 }
 
-fn print_outside(tally: &parts::OutsideTally) {
+fn print_marked(tally: &parts::MarkedTally) {
     println!(
-        "  {} of the sets have a name outside the domain; the original gives the same answer for {}",
+        "  {} of the sets have a name with a byte order mark; the original gives the same answer for {}",
         tally.sets, tally.same_answer
     );
-    for ((reason, ours, theirs), (sets, name)) in &tally.other_answer {
-        println!("    {sets}: {reason:?}, {ours} here and {theirs} by the original; the shortest name {name:02x?}");
+    for ((mark, ours, theirs), (sets, name)) in &tally.other_answer {
+        println!("    {sets}: {mark:02x?} first, {ours} here and {theirs} by the original; the shortest name {name:02x?}");
     }
 }
 
@@ -167,6 +179,11 @@ fn tallies() -> [Tally; 7] {
 
 fn self_test() -> ExitCode {
     let mut unreported = 0;
+    let of_index = oracle::index::self_test();
+    for (what, reported) in &of_index {
+        println!("the index, {what}: {}", if *reported { "reported" } else { "NOT REPORTED" });
+        unreported += !reported as usize;
+    }
     for what in ALTERATIONS {
         alter(what);
         let tallies = tallies();
@@ -177,7 +194,8 @@ fn self_test() -> ExitCode {
     }
     alter(Alter::Nothing);
     let unaltered: usize = tallies().iter().map(|tally| tally.differences.len()).sum();
-    println!("{} alterations, {unreported} not reported; {unaltered} differences without one", ALTERATIONS.len());
+    let alterations = ALTERATIONS.len() + of_index.len();
+    println!("{alterations} alterations, {unreported} not reported; {unaltered} differences without one");
     if unreported + unaltered == 0 {
         ExitCode::SUCCESS
     } else {

@@ -10,9 +10,9 @@ use crate::tidy::TidyCheck;
 use oracle::crowded;
 use oracle::files::{self, file_kind, file_of, FileKind, FILE_KINDS};
 use oracle::named::{self, FEW_NAMES};
-use oracle::names;
+use oracle::names::{self, is_lead, pair_of, BYTE_ORDER_MARKS, POINTERS};
 use oracle::older::{self, narrowed};
-use oracle::part_sets::{self, set_kind, set_of, SetKind, FAULTS, SET_KINDS};
+use oracle::part_sets::{self, set_kind, set_of, SetKind, FAULTS, PLACES, SET_KINDS};
 use oracle::parts::Parts;
 use oracle::properties::{self, UP_TO_70};
 use oracle::random::Random;
@@ -237,10 +237,13 @@ pub fn tidying(cases: u64, seed: u64) -> (Tally, TidyCheck) {
 
 const NO_PARTS: &str = "no parts";
 const EACH_FAULT: &str = "each fault alone";
-const EACH_PAIR: &str = "each fault with each";
+const EACH_WITH_ANOTHER: &str = "each fault with each";
+const NO_CHARACTER: &str = "each fault with a pair without a character";
+const EACH_PAIR: &str = "each lead and trail, as a name";
 
 pub fn parts(cases: u64, seed: u64) -> (Tally, PartsCheck) {
-    let labels: Vec<&str> = [NO_PARTS, EACH_FAULT, EACH_PAIR].into_iter().chain(SET_KINDS.map(SetKind::label)).collect();
+    let fixed = [NO_PARTS, EACH_FAULT, EACH_WITH_ANOTHER, NO_CHARACTER, EACH_PAIR];
+    let labels: Vec<&str> = fixed.into_iter().chain(SET_KINDS.map(SetKind::label)).collect();
     let (mut tally, mut check) = (Tally::new("Parts: building", &labels), PartsCheck::default());
     for (label, set) in fixed_sets(seed) {
         tally.count(label, check.check(&set), || shown(&set));
@@ -262,8 +265,19 @@ fn fixed_sets(seed: u64) -> impl Iterator<Item = (&'static str, Parts)> {
     }
     for first in FAULTS {
         for second in FAULTS {
-            sets.extend((0..4).map(|_| (EACH_PAIR, part_sets::with(&[first, second], &mut random))));
+            sets.extend((0..4).map(|_| (EACH_WITH_ANOTHER, part_sets::with(&[first, second], &mut random))));
         }
+    }
+    for (fault, place) in FAULTS.into_iter().flat_map(|fault| PLACES.map(|place| (fault, place))) {
+        let name = names::name_without_character(place.width(), &mut random);
+        let mut set = part_sets::with(&[fault], &mut random);
+        part_sets::add_name(&mut set, place, &name, &mut random);
+        sets.push((NO_CHARACTER, set));
+    }
+    for (pointer, place) in (0..POINTERS).flat_map(|pointer| PLACES.map(|place| (pointer, place))) {
+        let mut set = Parts::default();
+        part_sets::add_name(&mut set, place, &pair_of(pointer), &mut random);
+        sets.push((EACH_PAIR, set));
     }
     sets.into_iter()
 }
@@ -281,29 +295,63 @@ fn shown(p: &Parts) -> String {
 
 // ---- names
 
-/// The second is of every name of one and two bytes, the third of random ones.
-pub fn names(cases: u64, seed: u64) -> (Tally, NameTally, NameTally) {
+const SHORT: &str = "every name of up to two bytes";
+const MARKED: &str = "byte order marks and one byte more";
+const RANDOM: &str = "random names of up to 20 bytes";
+const TRIPLES: &str = "every three bytes with a lead in the middle";
+
+/// What was found among the names of each label.
+pub type NameTallies = Vec<(&'static str, NameTally)>;
+
+fn count_names(tally: &mut Tally, label: &'static str, names: impl Iterator<Item = Vec<u8>>) -> (&'static str, NameTally) {
+    let mut found = NameTally::default();
+    for name in names {
+        tally.count(label, found.check(&name), || hex(&name));
+    }
+    (label, found)
+}
+
+pub fn names(cases: u64, seed: u64) -> (Tally, NameTallies) {
     let mut tally = Tally::new("Names: the test of a name's bytes", &[]);
-    let (mut short, mut random_names) = (NameTally::default(), NameTally::default());
-    let mut count = |label: &str, names: &mut NameTally, name: &[u8]| {
-        tally.count(label, names.check(name), || hex(name));
-    };
-    for a in 1..=255u8 {
-        count("every name of one byte", &mut short, &[a]);
-        (1..=255u8).for_each(|b| count("every name of two bytes", &mut short, &[a, b]));
-    }
-    for case in 0..cases {
-        let name = random_name(&mut Random::for_case(seed, NAMES + case));
-        count("random names of up to 20 bytes", &mut random_names, &name);
-    }
-    (tally, short, random_names)
+    let random = (0..cases).map(|case| random_name(&mut Random::for_case(seed, NAMES + case)));
+    let tallies = vec![
+        count_names(&mut tally, SHORT, short_names()),
+        count_names(&mut tally, MARKED, marked_names()),
+        count_names(&mut tally, RANDOM, random),
+    ];
+    (tally, tallies)
+}
+
+/// Apart from the others, since there are 3,932,160.
+pub fn triples() -> (Tally, NameTallies) {
+    let mut tally = Tally::new("Names of three bytes", &[]);
+    let leads = || bytes().filter(|&b| is_lead(b));
+    let triples = bytes().flat_map(move |a| leads().flat_map(move |b| bytes().map(move |c| vec![a, b, c])));
+    let tallies = vec![count_names(&mut tally, TRIPLES, triples)];
+    (tally, tallies)
+}
+
+fn bytes() -> impl Iterator<Item = u8> {
+    0..=255
+}
+
+fn short_names() -> impl Iterator<Item = Vec<u8>> {
+    let two = bytes().flat_map(|a| bytes().map(move |b| vec![a, b]));
+    std::iter::once(Vec::new()).chain(bytes().map(|a| vec![a])).chain(two)
+}
+
+/// The marks, and with one byte more of every value; the first also with 0xBD and one byte more.
+fn marked_names() -> impl Iterator<Item = Vec<u8>> {
+    let marks = || BYTE_ORDER_MARKS.into_iter().map(<[u8]>::to_vec);
+    let heads = marks().chain([vec![0xef, 0xbb, 0xbf, 0xbd]]);
+    marks().chain(heads.flat_map(|head| bytes().map(move |b| [&head[..], &[b]].concat())))
 }
 
 fn random_name(random: &mut Random) -> Vec<u8> {
     match random.below(4) {
         0 => names::good_name(random.below(21), random),
         1 => names::bad_name(20, random),
-        2 => names::outside_name(20, random),
+        2 => names::marked_or_without_character(20, random),
         _ => (0..random.below(8)).map(|_| 1 + random.below(255) as u8).collect(),
     }
 }

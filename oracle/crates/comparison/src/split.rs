@@ -4,8 +4,8 @@
 use crate::check::{same, Checked, SLOT};
 use crate::lent::Output;
 use crate::library::{self, Lent};
-use crate::parts::name_outside;
-use oracle::original::{self, VmdParsedAnimation, PARTS_DO_NOT_FIT};
+use crate::parts::marked_name;
+use oracle::original::{self, VmdParsedAnimation, NOT_GOOD, PARTS_DO_NOT_FIT};
 use oracle::parts::Parts;
 
 /// A column as the call writes it: floats are their bits.
@@ -91,9 +91,9 @@ pub struct SplitCheck {
     turn: usize,
     /// Sets of parts that the original builds from.
     pub built: u64,
-    /// Those among them that have names in document 01's domain: the library builds from them too.
+    /// Those among them without a byte order mark at a name's start: the library builds from them too, and refuses the others.
     pub built_here: u64,
-    /// Those that it refuses, by its refusal.
+    /// Those that it refuses, by its refusal; without a byte order mark the library refuses them likewise.
     pub not_built: [u64; 14],
 }
 
@@ -152,18 +152,26 @@ impl SplitCheck {
     /// Building from the parts, which are those that the library gave.
     fn check_built(&mut self, parts: &Parts, exported: &[u8]) -> Checked {
         match original::build(parts) {
-            Err(refusal) => self.not_built[refusal as usize] += 1,
+            Err(refusal) => {
+                self.not_built[refusal as usize] += 1;
+                if marked_name(parts).is_none() {
+                    let mut size = SLOT;
+                    let answer = library::build_size(parts, parts.columns(), &mut size);
+                    same("building from the parts: refusal", answer, refusal)?;
+                }
+            }
             Ok(built) => {
                 self.built += 1;
                 same("the original's export of what it builds from the parts", &built[..], exported)?;
-                if name_outside(parts).is_none() {
-                    self.built_here += 1;
-                    let (mut written, out) = (SLOT, self.output.lend(exported.len()));
-                    let answer = library::build_animation_from_parts(parts, parts.columns(), out, &mut written);
-                    same("building from the parts: answer", answer, 0)?;
-                    same("building from the parts: length", written, exported.len() as u64)?;
-                    self.output.holds(exported).map_err(|difference| format!("building from the parts: {difference}"))?;
+                let (mut written, out) = (SLOT, self.output.lend(exported.len()));
+                let answer = library::build_animation_from_parts(parts, parts.columns(), out, &mut written);
+                if marked_name(parts).is_some() {
+                    return same("building from parts with a byte order mark: answer", answer, NOT_GOOD);
                 }
+                self.built_here += 1;
+                same("building from the parts: answer", answer, 0)?;
+                same("building from the parts: length", written, exported.len() as u64)?;
+                self.output.holds(exported).map_err(|difference| format!("building from the parts: {difference}"))?;
             }
         }
         Ok(())

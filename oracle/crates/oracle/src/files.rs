@@ -127,7 +127,7 @@ pub fn name_field(width: usize, random: &mut Random) -> Vec<u8> {
         0 => Vec::new(),
         1 => names::good_name(width, random),
         2 => names::bad_name(width, random),
-        3 => names::outside_name(width, random),
+        3 => names::marked_or_without_character(width, random),
         4 => {
             let mut any = vec![0; random.below(width + 1)];
             random.fill(&mut any);

@@ -2,6 +2,7 @@
 
 pub mod crowded;
 pub mod files;
+pub mod index;
 pub mod named;
 pub mod names;
 pub mod older;

@@ -15,6 +15,7 @@ pub const ENDS_EARLY: u32 = 1;
 pub const MAGIC_DIFFERS: u32 = 2;
 pub const SCRATCH_TOO_SHORT: u32 = 3;
 pub const PARTS_NOT_WHOLE: u32 = 5;
+pub const NOT_GOOD: u32 = 7;
 pub const OUTPUT_TOO_SHORT: u32 = 13;
 pub const PARTS_DO_NOT_FIT: u32 = 14;
 pub const MODEL_NAME_TOO_LONG: u32 = 15;

@@ -364,13 +364,33 @@ fn add_ik_name(parts: &mut Parts, name: &[u8], random: &mut Random) {
     put_ik_state(&mut parts.property_frames, name, random);
 }
 
-/// One name outside document 01's domain, somewhere.
-pub fn add_outside_name(parts: &mut Parts, random: &mut Random) {
-    match random.below(4) {
-        0 => parts.model_name = names::outside_name(20, random),
-        1 => push_name(&mut parts.bone_name_bytes, &mut parts.bone_name_ends, &names::outside_name(15, random)),
-        2 => push_name(&mut parts.morph_name_bytes, &mut parts.morph_name_ends, &names::outside_name(15, random)),
-        _ => add_ik_name(parts, &names::outside_name(20, random), random),
+/// Where a name can stand, and how many bytes it may have there.
+#[derive(Clone, Copy, PartialEq, Eq, Debug)]
+pub enum Place {
+    Model,
+    Bone,
+    Morph,
+    IkState,
+}
+
+pub const PLACES: [Place; 4] = [Place::Model, Place::Bone, Place::Morph, Place::IkState];
+
+impl Place {
+    pub fn width(self) -> usize {
+        match self {
+            Place::Model | Place::IkState => 20,
+            Place::Bone | Place::Morph => 15,
+        }
+    }
+}
+
+/// One more name, or another one for the model.
+pub fn add_name(parts: &mut Parts, place: Place, name: &[u8], random: &mut Random) {
+    match place {
+        Place::Model => parts.model_name = name.to_vec(),
+        Place::Bone => push_name(&mut parts.bone_name_bytes, &mut parts.bone_name_ends, name),
+        Place::Morph => push_name(&mut parts.morph_name_bytes, &mut parts.morph_name_ends, name),
+        Place::IkState => add_ik_name(parts, name, random),
     }
 }
 
@@ -382,12 +402,20 @@ pub enum SetKind {
     OneFault,
     TwoFaults,
     ManyFaults,
-    OutsideName,
+    NoCharacter,
+    Marked,
     Large,
 }
 
-pub const SET_KINDS: [SetKind; 6] =
-    [SetKind::Sound, SetKind::OneFault, SetKind::TwoFaults, SetKind::ManyFaults, SetKind::OutsideName, SetKind::Large];
+pub const SET_KINDS: [SetKind; 7] = [
+    SetKind::Sound,
+    SetKind::OneFault,
+    SetKind::TwoFaults,
+    SetKind::ManyFaults,
+    SetKind::NoCharacter,
+    SetKind::Marked,
+    SetKind::Large,
+];
 
 impl SetKind {
     pub fn label(self) -> &'static str {
@@ -396,7 +424,8 @@ impl SetKind {
             SetKind::OneFault => "one fault",
             SetKind::TwoFaults => "two faults",
             SetKind::ManyFaults => "three to six faults",
-            SetKind::OutsideName => "a name outside the domain",
+            SetKind::NoCharacter => "a pair without a character",
+            SetKind::Marked => "a byte order mark",
             SetKind::Large => "up to 300 of everything",
         }
     }
@@ -409,7 +438,8 @@ pub fn set_kind(random: &mut Random) -> SetKind {
         150..=249 => SetKind::OneFault,
         250..=319 => SetKind::TwoFaults,
         320..=349 => SetKind::ManyFaults,
-        _ => SetKind::OutsideName,
+        350..=382 => SetKind::NoCharacter,
+        _ => SetKind::Marked,
     }
 }
 
@@ -422,14 +452,8 @@ pub fn set_of(kind: SetKind, random: &mut Random) -> Parts {
             let faults = 3 + random.below(4);
             with_faults(faults, random)
         }
-        SetKind::OutsideName => {
-            let mut parts = sound(0, 2, random);
-            add_outside_name(&mut parts, random);
-            if random.one_in(4) {
-                add_fault(&mut parts, any_fault(random), random);
-            }
-            parts
-        }
+        SetKind::NoCharacter => with_name(names::name_without_character, random),
+        SetKind::Marked => with_name(names::marked_name, random),
         SetKind::Large => sound(0, 300, random),
     }
 }
@@ -437,6 +461,18 @@ pub fn set_of(kind: SetKind, random: &mut Random) -> Parts {
 fn with_faults(faults: usize, random: &mut Random) -> Parts {
     let mut parts = sound(1, 2, random);
     for _ in 0..faults {
+        add_fault(&mut parts, any_fault(random), random);
+    }
+    parts
+}
+
+/// One such name somewhere, and at times a fault.
+fn with_name(drawn: fn(usize, &mut Random) -> Vec<u8>, random: &mut Random) -> Parts {
+    let mut parts = sound(0, 2, random);
+    let place = random.pick(&PLACES);
+    let name = drawn(place.width(), random);
+    add_name(&mut parts, place, &name, random);
+    if random.one_in(4) {
         add_fault(&mut parts, any_fault(random), random);
     }
     parts

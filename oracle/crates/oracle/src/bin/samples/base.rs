@@ -1,6 +1,7 @@
 //! The files and parts that the examples are made of: small, with different bytes at different places.
 
 use oracle::files::{Pieces, Section};
+use oracle::part_sets::Place;
 use oracle::parts::{push_name, Parts};
 
 /// Floats that arithmetic or a comparison would change or merge: signalling and quiet NaNs, infinities, both zeros, a
@@ -154,5 +155,34 @@ pub fn sound_parts() -> Parts {
     parts.morph_name_indices = vec![0];
     parts.morph_frames = vec![9];
     parts.morph_weights = vec![f32::from_bits(PLAIN[2])];
+    parts
+}
+
+/// Pairs of a lead and a trail: request h)'s 0x85 0x40, document 01's 0x83 0x41, those at both ends of the pointers 8836 to 10715
+/// and beside them, the last of the index and the one after it.
+pub const PAIRS: [[u8; 2]; 8] =
+    [[0x85, 0x40], [0x83, 0x41], [0xef, 0xfc], [0xf0, 0x40], [0xf9, 0xfc], [0xfa, 0x40], [0xfc, 0x4b], [0xfc, 0x4c]];
+
+/// No parts but this name, and the bone, the morph or the IK state that has it.
+pub fn named_parts(place: Place, name: &[u8]) -> Parts {
+    let mut parts = Parts::default();
+    match place {
+        Place::Model => parts.model_name = name.to_vec(),
+        Place::Bone => {
+            push_name(&mut parts.bone_name_bytes, &mut parts.bone_name_ends, name);
+            parts.bone_name_indices = vec![0];
+            parts.bone_frames = vec![8];
+            parts.bone_translations_xyz = vec![0.5; 3];
+            parts.bone_rotations_xyzw = vec![1.0; 4];
+            parts.bone_interpolations = counting(1, 64);
+        }
+        Place::Morph => {
+            push_name(&mut parts.morph_name_bytes, &mut parts.morph_name_ends, name);
+            parts.morph_name_indices = vec![0];
+            parts.morph_frames = vec![9];
+            parts.morph_weights = vec![0.5];
+        }
+        Place::IkState => parts.property_frames = property(7, 1, &[(name, 1)]),
+    }
     parts
 }

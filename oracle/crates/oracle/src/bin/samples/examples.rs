@@ -5,7 +5,7 @@ use crate::antt::{self, atom, number, Known, Module};
 use crate::base;
 use oracle::files::{self, MAGIC, SIZES};
 use oracle::original::{self, VmdParsedAnimation};
-use oracle::part_sets::{self, add_fault, Fault, FAULTS, NOT_WHOLE};
+use oracle::part_sets::{self, add_fault, Fault, FAULTS, NOT_WHOLE, PLACES};
 use oracle::parts::Parts;
 use oracle::random::Random;
 use std::path::Path;
@@ -372,10 +372,10 @@ fn with_faults(faults: &[Fault], random: &mut Random) -> Parts {
     parts
 }
 
-/// A fault's name, as the proof language writes names.
-fn spelled(fault: Fault) -> String {
+/// The name of a fault or a place, as the proof language writes names.
+fn spelled(named: impl std::fmt::Debug) -> String {
     let mut text = String::new();
-    for c in format!("{fault:?}").chars() {
+    for c in format!("{named:?}").chars() {
         if c.is_uppercase() && !text.is_empty() {
             text.push('-');
         }
@@ -385,7 +385,8 @@ fn spelled(fault: Fault) -> String {
 }
 
 fn builds(known: &Known) -> Module {
-    let mut module = Module::new("Built", "Parts built, each fault alone and some with another. The parts below have none.");
+    let mut module =
+        Module::new("Built", "Parts built, each fault alone, some with another, names of one pair. The parts below have none.");
     let mut known = known.clone();
     let sound = base::sound_parts();
     for (name, column) in columns(&sound) {
@@ -408,6 +409,12 @@ fn builds(known: &Known) -> Module {
         let second = seen[(i * 7 + 5) % seen.len()];
         let name = format!("with-{}-and-{}", spelled(first), spelled(second));
         add_build(&mut module, &known, &name, &with_faults(&[first, second], &mut random));
+    }
+    for place in PLACES {
+        for [lead, trail] in base::PAIRS {
+            let name = format!("{}-{lead:02x}-{trail:02x}", spelled(place));
+            add_build(&mut module, &known, &name, &base::named_parts(place, &[lead, trail]));
+        }
     }
     module
 }

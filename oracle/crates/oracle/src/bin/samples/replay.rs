@@ -1,9 +1,10 @@
 //! Which cases the replaying program gets: every outcome of every call, in small inputs.
 
+use crate::base;
 use crate::cases::{Case, Room, BUILD, CONVERT, EXPORT, JOIN, OPEN, ROOMS};
 use oracle::files::{self, file_of, FileKind, FILE_KINDS};
 use oracle::older::{self, narrowed};
-use oracle::part_sets::{self, Fault, FAULTS, NOT_WHOLE};
+use oracle::part_sets::{self, Fault, FAULTS, NOT_WHOLE, PLACES};
 use oracle::parts::Parts;
 use oracle::random::Random;
 use std::collections::BTreeMap;
@@ -25,6 +26,7 @@ pub fn write(path: &Path) {
     add_builds(&mut cases);
     add_older_files(&mut cases);
     add_older_joins(&mut cases);
+    add_pairs(&mut cases);
     let mut bytes = Vec::new();
     let mut outcomes: BTreeMap<(u32, u32), usize> = BTreeMap::new();
     for case in &cases {
@@ -151,6 +153,13 @@ fn add_older_joins(cases: &mut Vec<Case>) {
             1 => Case::join(first, narrowed(&second), room(i / 3)),
             _ => Case::join(narrowed(&first), narrowed(&second), room(i / 3)),
         });
+    }
+}
+
+/// Names of one pair, with and without a character.
+fn add_pairs(cases: &mut Vec<Case>) {
+    for place in PLACES {
+        cases.extend(base::PAIRS.map(|pair| Case::build(&base::named_parts(place, &pair), Room::More)));
     }
 }
 

@@ -1,0 +1,12 @@
+-- `vmd_index::outcome_after` meets its contract. Assumes nothing.
+use borrow.Author.Needs.{needs}
+use Rattle.vmd_index.proofs.outcome_after.Statement.{statement}
+use Rattle.vmd_index.proofs.outcome_after.Tie as tie
+
+returns-3 : tie.Need-returns-3
+returns-3 c = rw (c .before .found .given .1)
+
+pub outcome-after-spec : {M : Type 1} → statement M
+outcome-after-spec =
+    tie.close (tie.spec
+    (λ c. search needs) (λ c. search needs) (λ c. search needs) (λ c. search needs) (λ c. search needs) returns-3)

@@ -1,0 +1,4 @@
+pub mod Index
+pub mod Steps
+pub mod Output
+pub mod Examples
