@@ -1,6 +1,6 @@
 -- The table's agreement with the runs: one test that is computed, carried to each pointer. Assumes nothing.
 use Prim.Native.Nat.{ℕ, zero, suc, _+_, _*_, _/_, _%_, _^_, _≤_, _<_}
-use mathlib.Core.Path.{_≡_, refl, sym, _∙_, ap, subst}
+use mathlib.Core.Path.{_≡_, refl, sym, _∙_, ap}
 use mathlib.Core.Bool.{Bool, true, false, _&&_}
 use mathlib.Core.List.{List, [], _∷_}
 use native.Mathlib.Omega.{arith}
@@ -9,7 +9,7 @@ use lib.ListN.{length, getD}
 use lib.Dec.{leb, eqb, T}
 use lib.Ieee.Fits.{and-l, and-r}
 use borrow.Author.Tests.{le-leb, lt-leb}
-use Rattle.vmd_format.specs.Characters.{between, runs, in-runs, in-index, character}
+use Rattle.vmd_format.specs.Characters.{between, in-index, character}
 use Rattle.vmd_presence.specs.Presence.{bit, Presence}
 
 abbrev alike : Bool → Bool → Bool

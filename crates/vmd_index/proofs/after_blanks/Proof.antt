@@ -1,5 +1,5 @@
 -- `vmd_index::after_blanks` meets its contract. Assumes nothing.
-use mathlib.Core.Path.{sym, ap, _∙_}
+use mathlib.Core.Path.{sym, _∙_}
 use borrow.Author.Tests.{eq-eqb, ne-eqb}
 use borrow.Author.Needs.{needs}
 use Rattle.vmd_index.proofs.Laws.{digit-range}
