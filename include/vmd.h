@@ -6,6 +6,13 @@
  * a model name of 20 bytes, the older with "Vocaloid Motion Data file" and one of 10; after the name all is the same. Places
  * are positions in the file as it is. What is written is of the newer edition, but for vmd_export_older_animation.
  *
+ * Manners of reading. Every call that reads a whole take, but for vmd_season_add, is strict: it turns down a file with bytes
+ * after its last property frame, or after a property count of 0 (16), and one with a camera, light or self-shadow count whose
+ * records exceed the bytes left (17), both as met in the file. Beside each stands a call whose name ends in _lenient, with the
+ * same parameters: it ignores such bytes, and takes such a section and all after it for empty; what it saves has lost them. In
+ * all else the two give the same. vmd_season_add is lenient and has no strict twin. Calls for records, names and interpolation
+ * bytes, vmd_model_name and vmd_joined_model read no whole take and have no manner.
+ *
  * The functions are those of the proved library, built by 'rt staticlib vmd_c'. They allocate nothing, keep no state, and
  * can be called from any thread.
  *
@@ -34,22 +41,24 @@ extern "C" {
 
 enum vmd_refusal {
     VMD_OK = 0,
-    VMD_ENDS_EARLY = 1,          /* the file ends early */
-    VMD_MAGIC_DIFFERS = 2,       /* not a VMD file */
-    VMD_SCRATCH_TOO_SHORT = 3,   /* opening: fewer scratch places than a sixteenth of the property frames, rounded up;
-                                    tidying: fewer than the largest section has records */
-    VMD_OUTSIDE = 4,             /* record or IK number at or above the count, or its place outside the file */
-    VMD_PARTS_NOT_WHOLE = 5,     /* name table ends wrong, records not whole, properties cut or with bytes over */
-    VMD_NAME_UNFIT = 6,          /* model name over 20 bytes, table name over 15, or a zero byte in one */
-    VMD_NAME_NOT_GOOD = 7,       /* name bytes not good Shift_JIS: one that starts nothing, or a pair without a character */
-    VMD_NOT_FINITE = 8,          /* camera, light, bone or morph float not finite */
-    VMD_SELF_SHADOW_UNFIT = 9,   /* self-shadow distance not finite, or mode above 2 */
-    VMD_COLUMNS_DISAGREE = 10,   /* bone or morph column lengths disagree */
-    VMD_COUNT_TOO_LARGE = 11,    /* a section count above 4,294,967,295 */
-    VMD_NAME_INDEX = 12,         /* name index at or above the table's length */
-    VMD_OUTPUT_TOO_SHORT = 13,   /* output shorter than the file to be written */
-    VMD_PARTS_DO_NOT_FIT = 14,   /* a buffer for parts is too short, or a name table passes 4,294,967,295 bytes */
-    VMD_MODEL_NAME_TOO_LONG = 15 /* the model name is over 10 bytes, which the older edition cannot hold */
+    VMD_ENDS_EARLY = 1,           /* the file ends early */
+    VMD_MAGIC_DIFFERS = 2,        /* not a VMD file */
+    VMD_SCRATCH_TOO_SHORT = 3,    /* opening: fewer scratch places than a sixteenth of the property frames, rounded up;
+                                     tidying: fewer than the largest section has records */
+    VMD_OUTSIDE = 4,              /* record or IK number at or above the count, or its place outside the file */
+    VMD_PARTS_NOT_WHOLE = 5,      /* name table ends wrong, records not whole, properties cut or with bytes over */
+    VMD_NAME_UNFIT = 6,           /* model name over 20 bytes, table name over 15, or a zero byte in one */
+    VMD_NAME_NOT_GOOD = 7,        /* name bytes not good Shift_JIS: one that starts nothing, or a pair without a character */
+    VMD_NOT_FINITE = 8,           /* camera, light, bone or morph float not finite */
+    VMD_SELF_SHADOW_UNFIT = 9,    /* self-shadow distance not finite, or mode above 2 */
+    VMD_COLUMNS_DISAGREE = 10,    /* bone or morph column lengths disagree */
+    VMD_COUNT_TOO_LARGE = 11,     /* a section count above 4,294,967,295 */
+    VMD_NAME_INDEX = 12,          /* name index at or above the table's length */
+    VMD_OUTPUT_TOO_SHORT = 13,    /* output shorter than the file to be written */
+    VMD_PARTS_DO_NOT_FIT = 14,    /* a buffer for parts is too short, or a name table passes 4,294,967,295 bytes */
+    VMD_MODEL_NAME_TOO_LONG = 15, /* the model name is over 10 bytes, which the older edition cannot hold */
+    VMD_BYTES_OVER = 16,          /* strict: bytes after the last property frame, or after a property count of 0 */
+    VMD_COUNT_OVERSIZED = 17      /* strict: a camera, light or self-shadow count whose records exceed the bytes left */
 };
 
 /* Bytes of each record in a file. */
@@ -102,10 +111,14 @@ enum {
 
 /*
  * Checks a whole file. counts receives the number of records of each section, places where each section's records begin (the
- * file's length where its count is missing or it was emptied), totals the number of IK states, the smallest frame and the
- * largest (VMD_TOTAL_.. above; both frames 0 with no records). Place j of scratch receives the byte position of property
- * frame 16j: with n property frames the first (n + 15) / 16 places are written, and further places keep their contents. A
- * scratch of (file_len / 9 + 15) / 16 places is enough for any file. Refusals: 1, 2, 3.
+ * file's length where its count is missing or, in the lenient manner, it was emptied), totals the number of IK states, the
+ * smallest frame and the largest (VMD_TOTAL_.. above; both frames 0 with no records). Place j of scratch receives the byte
+ * position of property frame 16j: with n property frames the first (n + 15) / 16 places are written, and further places keep
+ * their contents. A scratch of (file_len / 9 + 15) / 16 places is enough for any file. Refusals: 1, 2, 16 and 17 as met, then
+ * 3; of the lenient call 1 and 2 as met, then 3.
+ *
+ * Every call without a manner in its name was lenient before it was strict. A program that has to read such files as it did
+ * calls the lenient one.
  *
  * scratch had a place for each property frame before. A program that only lends it to the calls below works as it did; one
  * that looks up positions in it, or writes them, has to be changed.
@@ -116,6 +129,8 @@ enum {
  */
 uint32_t vmd_parse_animation(const uint8_t *file, size_t file_len, uint64_t *scratch, size_t scratch_len,
                              uint32_t counts[6], uint64_t places[6], uint64_t totals[3]);
+uint32_t vmd_parse_animation_lenient(const uint8_t *file, size_t file_len, uint64_t *scratch, size_t scratch_len,
+                                     uint32_t counts[6], uint64_t places[6], uint64_t totals[3]);
 
 /*
  * ---- records by number
@@ -191,24 +206,35 @@ void vmd_camera_interpolation(const uint8_t *file, size_t file_len, const uint32
  *
  * The file is written at the front of out, and written receives its length; the rest of out keeps its contents. The size
  * calls give the length alone, so that out can be made long enough; what they give is exact.
+ *
+ * "Reading" in a list of refusals is 1, 2, 16 and 17 as met, and of a lenient call 1 and 2 as met.
  */
 
-/* Refusals: 1, 2; 13 where no 64-bit length could hold the file. */
+/* Refusals: reading; 13 where no 64-bit length could hold the file. */
 uint32_t vmd_export_size(const uint8_t *file, size_t file_len, uint64_t *size);
-/* Refusals: 1, 2, 13. */
+uint32_t vmd_export_size_lenient(const uint8_t *file, size_t file_len, uint64_t *size);
+/* Refusals: reading, 13. */
 uint32_t vmd_export_animation(const uint8_t *file, size_t file_len, uint8_t *out, size_t out_len, uint64_t *written);
+uint32_t vmd_export_animation_lenient(const uint8_t *file, size_t file_len, uint8_t *out, size_t out_len, uint64_t *written);
 /*
  * The same in the older edition: 10 bytes fewer, from the bone count on those of the export. A file of the older edition is
- * never refused with 15. Refusals: 1, 2, 15; 13 where no 64-bit length could hold the file.
+ * never refused with 15. Refusals: reading, 15; 13 where no 64-bit length could hold the file.
  */
 uint32_t vmd_export_older_size(const uint8_t *file, size_t file_len, uint64_t *size);
-/* Refusals: 1, 2, 15, 13. */
+uint32_t vmd_export_older_size_lenient(const uint8_t *file, size_t file_len, uint64_t *size);
+/* Refusals: reading, 15, 13. */
 uint32_t vmd_export_older_animation(const uint8_t *file, size_t file_len, uint8_t *out, size_t out_len, uint64_t *written);
-/* Refusals: those of the first file, of the second, 11; 13 where no 64-bit length could hold the file. */
+uint32_t vmd_export_older_animation_lenient(const uint8_t *file, size_t file_len, uint8_t *out, size_t out_len,
+                                            uint64_t *written);
+/* Refusals: reading of the first file, of the second, 11; 13 where no 64-bit length could hold the file. */
 uint32_t vmd_join_size(const uint8_t *first, size_t first_len, const uint8_t *second, size_t second_len, uint64_t *size);
-/* Every section is the first file's records, then the second's. Refusals: those of the first file, of the second, 11, 13. */
+uint32_t vmd_join_size_lenient(const uint8_t *first, size_t first_len, const uint8_t *second, size_t second_len,
+                               uint64_t *size);
+/* Every section is the first file's records, then the second's. Refusals: reading of the first file, of the second, 11, 13. */
 uint32_t vmd_join_animations(const uint8_t *first, size_t first_len, const uint8_t *second, size_t second_len, uint8_t *out,
                              size_t out_len, uint64_t *written);
+uint32_t vmd_join_animations_lenient(const uint8_t *first, size_t first_len, const uint8_t *second, size_t second_len,
+                                     uint8_t *out, size_t out_len, uint64_t *written);
 /*
  * The model name of the join: the first file's where that is not empty, else the second's. part receives which file it is in
  * (0 the first, 1 the second), where it begins there, and its length; 0, 0, 0 where both are empty. A file whose header is
@@ -232,12 +258,16 @@ void vmd_joined_model(const uint8_t *first, size_t first_len, const uint8_t *sec
  * not. Both calls take up to 512 KiB of stack.
  */
 
-/* How long the tidied file is, and both numbers. Refusals: 1, 2, 3; 13 where no 64-bit length could hold the file. */
+/* How long the tidied file is, and both numbers. Refusals: reading, 3; 13 where no 64-bit length could hold the file. */
 uint32_t vmd_tidy_size(const uint8_t *file, size_t file_len, uint64_t *scratch, size_t scratch_len, uint64_t *size,
                        uint32_t kept[6], uint32_t dropped[6]);
-/* Refusals: 1, 2, 3, 13. */
+uint32_t vmd_tidy_size_lenient(const uint8_t *file, size_t file_len, uint64_t *scratch, size_t scratch_len, uint64_t *size,
+                               uint32_t kept[6], uint32_t dropped[6]);
+/* Refusals: reading, 3, 13. */
 uint32_t vmd_tidy_animation(const uint8_t *file, size_t file_len, uint64_t *scratch, size_t scratch_len, uint8_t *out,
                             size_t out_len, uint64_t *written, uint32_t kept[6], uint32_t dropped[6]);
+uint32_t vmd_tidy_animation_lenient(const uint8_t *file, size_t file_len, uint64_t *scratch, size_t scratch_len, uint8_t *out,
+                                    size_t out_len, uint64_t *written, uint32_t kept[6], uint32_t dropped[6]);
 
 /*
  * ---- building
@@ -312,10 +342,10 @@ uint32_t vmd_build_animation_from_parts(const uint8_t *model_name, size_t model_
  * uint32_t *: the two have the same size and alignment, and the builder reads the same memory as floats. Where the builder
  * takes the parts, its file is the file's export.
  *
- * Refusals: 1, 2; then 14 where a buffer is too short or a name table passes 4,294,967,295 bytes. Needed are, with b bones, m
- * morphs, c cameras, l lights, s self-shadows, p properties and k IK states: 61c, 28l, 9s and 9p + 21k bytes of records; b, b,
- * 3b, 4b and 64b; m, m and m elements; and the tables, as vmd_split_sizes gives them. Tables of 15 bytes and one end for each
- * record are long enough for any names where 15 bytes for each record are at most 4,294,967,295 (286,331,153 records).
+ * Refusals: reading; then 14 where a buffer is too short or a name table passes 4,294,967,295 bytes. Needed are, with b bones,
+ * m morphs, c cameras, l lights, s self-shadows, p properties and k IK states: 61c, 28l, 9s and 9p + 21k bytes of records; b,
+ * b, 3b, 4b and 64b; m, m and m elements; and the tables, as vmd_split_sizes gives them. Tables of 15 bytes and one end for
+ * each record are long enough for any names where 15 bytes for each record are at most 4,294,967,295 (286,331,153 records).
  *
  * With such tables no names are counted first. With a shorter one a split counts the section's names, as vmd_split_sizes
  * does: both go over the records once for every 16,384 to 32,767 different names. So names whose tables are as long as
@@ -323,8 +353,9 @@ uint32_t vmd_build_animation_from_parts(const uint8_t *model_name, size_t model_
  * differ.
  */
 
-/* The four numbers alone. Refusals: 1, 2; 14 where a name table would pass 4,294,967,295 bytes. */
+/* The four numbers alone. Refusals: reading; 14 where a name table would pass 4,294,967,295 bytes. */
 uint32_t vmd_split_sizes(const uint8_t *file, size_t file_len, uint64_t sizes[4]);
+uint32_t vmd_split_sizes_lenient(const uint8_t *file, size_t file_len, uint64_t sizes[4]);
 uint32_t vmd_split_animation_into_parts(const uint8_t *file, size_t file_len,
                                         uint8_t *bone_name_bytes, size_t bone_name_bytes_len,
                                         uint32_t *bone_name_ends, size_t bone_name_ends_len,
@@ -343,6 +374,24 @@ uint32_t vmd_split_animation_into_parts(const uint8_t *file, size_t file_len,
                                         uint32_t *morph_frames, size_t morph_frames_len,
                                         uint32_t *morph_weights, size_t morph_weights_len,
                                         uint64_t sizes[4]);
+uint32_t vmd_split_animation_into_parts_lenient(const uint8_t *file, size_t file_len,
+                                                uint8_t *bone_name_bytes, size_t bone_name_bytes_len,
+                                                uint32_t *bone_name_ends, size_t bone_name_ends_len,
+                                                uint8_t *morph_name_bytes, size_t morph_name_bytes_len,
+                                                uint32_t *morph_name_ends, size_t morph_name_ends_len,
+                                                uint8_t *camera_frames, size_t camera_frames_len,
+                                                uint8_t *light_frames, size_t light_frames_len,
+                                                uint8_t *self_shadow_frames, size_t self_shadow_frames_len,
+                                                uint8_t *property_frames, size_t property_frames_len,
+                                                uint32_t *bone_name_indices, size_t bone_name_indices_len,
+                                                uint32_t *bone_frames, size_t bone_frames_len,
+                                                uint32_t *bone_translations_xyz, size_t bone_translations_xyz_len,
+                                                uint32_t *bone_rotations_xyzw, size_t bone_rotations_xyzw_len,
+                                                uint8_t *bone_interpolations, size_t bone_interpolations_len,
+                                                uint32_t *morph_name_indices, size_t morph_name_indices_len,
+                                                uint32_t *morph_frames, size_t morph_frames_len,
+                                                uint32_t *morph_weights, size_t morph_weights_len,
+                                                uint64_t sizes[4]);
 
 /*
  * ---- season figures
@@ -352,13 +401,13 @@ uint32_t vmd_split_animation_into_parts(const uint8_t *file, size_t file_len,
  * which are the figures of no takes; vmd_season_add adds a take; vmd_season_mean gives the mean of all six sections' records
  * per accepted take.
  *
- * A take that is refused (1, 2) adds one to figures[VMD_SEASON_REFUSED] and nothing else. So does one with which any other of
- * the 64-bit figures would pass 18,446,744,073,709,551,615. The number of refused takes stops at that value. The number of
- * accepted takes goes up by one just where a take was counted. While it is 0 the first take that is accepted sets smallest
- * and largest, whatever stood there. Any numbers may stand in the arrays.
+ * Takes are read in the lenient manner. One that is refused (1, 2) adds one to figures[VMD_SEASON_REFUSED] and nothing else.
+ * So does one with which any other of the 64-bit figures would pass 18,446,744,073,709,551,615. The number of refused takes
+ * stops at that value. The number of accepted takes goes up by one just where a take was counted. While it is 0 the first take
+ * that is accepted sets smallest and largest, whatever stood there. Any numbers may stand in the arrays.
  *
- * vmd_season_add counts names as vmd_split_sizes does: it takes up to 256 KiB of stack, and takes longest where nearly all
- * names differ. These calls do not refuse.
+ * vmd_season_add counts names as vmd_split_sizes_lenient does: it takes up to 256 KiB of stack, and takes longest where nearly
+ * all names differ. These calls do not refuse.
  */
 
 void vmd_season_none(uint32_t counts[12], uint64_t figures[11]);

@@ -1,4 +1,5 @@
-//! The library's calls on a take, and the copy that each is measured against.
+//! The library's calls on a take, and the copy that each is measured against. They have no named manner, so that earlier
+//! builds have them too: those read in the lenient manner, which gives the same for these takes.
 use std::hint::black_box;
 
 use crate::takes::Material;

@@ -4,6 +4,7 @@
 //! else, and the slots have the lengths that the header gives: their types are the declared ones. That a call stays inside
 //! what it was lent, and writes all of the bytes it says it has written, is proved of the library.
 use crate::header::{self, indices, sizes};
+use crate::manner::Manner;
 use crate::parts::{OwnedParts, Parts, PartsMut, TableSizes};
 use crate::refusal::{Error, Refusal};
 use crate::take::Take;
@@ -16,6 +17,37 @@ pub struct Opening {
     pub places: [u64; 6],
     /// The number of IK states, the smallest frame and the largest.
     pub totals: [u64; 3],
+}
+
+/// The lenient calls, by the names of the strict ones.
+#[rustfmt::skip] // one to a line
+mod lenient {
+    pub use crate::header::{
+        vmd_parse_animation_lenient as vmd_parse_animation,
+        vmd_export_size_lenient as vmd_export_size,
+        vmd_export_animation_lenient as vmd_export_animation,
+        vmd_export_older_size_lenient as vmd_export_older_size,
+        vmd_export_older_animation_lenient as vmd_export_older_animation,
+        vmd_join_size_lenient as vmd_join_size,
+        vmd_join_animations_lenient as vmd_join_animations,
+        vmd_tidy_size_lenient as vmd_tidy_size,
+        vmd_tidy_animation_lenient as vmd_tidy_animation,
+        vmd_split_sizes_lenient as vmd_split_sizes,
+        vmd_split_animation_into_parts_lenient as vmd_split_animation_into_parts,
+    };
+}
+
+/// The function of a call that reads a whole take, by its strict name: here alone the manner is chosen.
+///
+/// Functions with it are inlined, so that a call without a named manner refers to the strict function alone: `./bench
+/// --against` links such calls with libraries from before the lenient ones.
+macro_rules! in_manner {
+    ($manner:expr, $call:ident) => {
+        match $manner {
+            Manner::Strict => header::$call,
+            Manner::Lenient => lenient::$call,
+        }
+    };
 }
 
 /// The fetches of a section, as safe functions: `record` words by number, and `part`s of the file by number.
@@ -87,19 +119,13 @@ fn written(size: u64, write: impl FnOnce(*mut u8, usize, *mut u64) -> u32) -> Re
 }
 
 /// Place j of the scratch receives where property frame 16j stands.
-pub fn open(file: &[u8], scratch: &mut [u64]) -> Result<Opening, Refusal> {
+#[inline]
+pub fn open(manner: Manner, file: &[u8], scratch: &mut [u64]) -> Result<Opening, Refusal> {
+    let call = in_manner!(manner, vmd_parse_animation);
     let mut o = Opening { counts: [0; 6], places: [0; 6], totals: [0; 3] };
     // SAFETY: two slices, and the three arrays of an opening of this function's own.
     answered(unsafe {
-        header::vmd_parse_animation(
-            file.as_ptr(),
-            file.len(),
-            scratch.as_mut_ptr(),
-            scratch.len(),
-            &mut o.counts,
-            &mut o.places,
-            &mut o.totals,
-        )
+        call(file.as_ptr(), file.len(), scratch.as_mut_ptr(), scratch.len(), &mut o.counts, &mut o.places, &mut o.totals)
     })?;
     Ok(o)
 }
@@ -175,81 +201,68 @@ pub fn model_name(file: &[u8]) -> &[u8] {
 /// The calls that save a take in one of the editions: how long the file is, the file in memory of its own, and at the front
 /// of a lent output.
 macro_rules! saving_calls {
-    ($(
-        $(#[$size_doc:meta])* $size:ident: $size_c:ident;
-        $save:ident, $(#[$into_doc:meta])* $into:ident: $save_c:ident;
-    )*) => {
-        $($(#[$size_doc])*
-        pub fn $size(file: &[u8]) -> Result<u64, Refusal> {
+    ($($size:ident: $size_c:ident; $save:ident, $into:ident: $save_c:ident;)*) => {
+        $(#[inline]
+        pub fn $size(manner: Manner, file: &[u8]) -> Result<u64, Refusal> {
+            let call = in_manner!(manner, $size_c);
             let mut size = 0;
             // SAFETY: a slice, and a number of this function's own.
-            answered(unsafe { header::$size_c(file.as_ptr(), file.len(), &mut size) })?;
+            answered(unsafe { call(file.as_ptr(), file.len(), &mut size) })?;
             Ok(size)
         }
 
-        pub fn $save(file: &[u8]) -> Result<Vec<u8>, Error> {
+        #[inline]
+        pub fn $save(manner: Manner, file: &[u8]) -> Result<Vec<u8>, Error> {
+            let call = in_manner!(manner, $save_c);
             // SAFETY: a slice, and new memory for `len` bytes, into which the call writes and does not read.
-            written($size(file)?, |out, len, written| unsafe {
-                header::$save_c(file.as_ptr(), file.len(), out, len, written)
+            written($size(manner, file)?, |out, len, written| unsafe {
+                call(file.as_ptr(), file.len(), out, len, written)
             })
         }
 
-        $(#[$into_doc])*
-        pub fn $into(file: &[u8], out: &mut [u8]) -> Result<usize, Refusal> {
+        #[inline]
+        pub fn $into(manner: Manner, file: &[u8], out: &mut [u8]) -> Result<usize, Refusal> {
+            let call = in_manner!(manner, $save_c);
             let mut written = 0;
             // SAFETY: two slices, of which the output is borrowed by this call alone.
-            answered(unsafe { header::$save_c(file.as_ptr(), file.len(), out.as_mut_ptr(), out.len(), &mut written) })?;
+            answered(unsafe { call(file.as_ptr(), file.len(), out.as_mut_ptr(), out.len(), &mut written) })?;
             Ok(written as usize)
         })*
     };
 }
 
 saving_calls! {
-    /// How many bytes [`export`](crate::export) gives.
     export_size: vmd_export_size;
-    export,
-    /// [`export`](crate::export) at the front of a lent output, the rest of which stays as it is. Gives how many bytes it
-    /// wrote.
-    export_into: vmd_export_animation;
-
-    /// How many bytes [`export_older`](crate::export_older) gives: 10 fewer than [`export`](crate::export).
+    export, export_into: vmd_export_animation;
     export_older_size: vmd_export_older_size;
-    export_older,
-    /// [`export_older`](crate::export_older) at the front of a lent output, the rest of which stays as it is. Gives how many
-    /// bytes it wrote.
-    export_older_into: vmd_export_older_animation;
+    export_older, export_older_into: vmd_export_older_animation;
 }
 
-/// How many bytes [`join`](crate::join) gives.
-pub fn join_size(first: &[u8], second: &[u8]) -> Result<u64, Refusal> {
+#[inline]
+pub fn join_size(manner: Manner, first: &[u8], second: &[u8]) -> Result<u64, Refusal> {
+    let call = in_manner!(manner, vmd_join_size);
     let mut size = 0;
     // SAFETY: two slices, which may be the same, and a number of this function's own.
-    answered(unsafe { header::vmd_join_size(first.as_ptr(), first.len(), second.as_ptr(), second.len(), &mut size) })?;
+    answered(unsafe { call(first.as_ptr(), first.len(), second.as_ptr(), second.len(), &mut size) })?;
     Ok(size)
 }
 
-pub fn join(first: &[u8], second: &[u8]) -> Result<Vec<u8>, Error> {
+#[inline]
+pub fn join(manner: Manner, first: &[u8], second: &[u8]) -> Result<Vec<u8>, Error> {
+    let call = in_manner!(manner, vmd_join_animations);
     // SAFETY: two slices, and new memory for `len` bytes, into which the call writes and does not read.
-    written(join_size(first, second)?, |out, len, written| unsafe {
-        header::vmd_join_animations(first.as_ptr(), first.len(), second.as_ptr(), second.len(), out, len, written)
+    written(join_size(manner, first, second)?, |out, len, written| unsafe {
+        call(first.as_ptr(), first.len(), second.as_ptr(), second.len(), out, len, written)
     })
 }
 
-/// [`join`](crate::join) at the front of a lent output, the rest of which stays as it is. Gives how many bytes it wrote.
-pub fn join_into(first: &[u8], second: &[u8], out: &mut [u8]) -> Result<usize, Refusal> {
+#[inline]
+pub fn join_into(manner: Manner, first: &[u8], second: &[u8], out: &mut [u8]) -> Result<usize, Refusal> {
+    let call = in_manner!(manner, vmd_join_animations);
     let mut written = 0;
+    let (at, len) = (out.as_mut_ptr(), out.len());
     // SAFETY: three slices, of which the output is borrowed by this call alone.
-    answered(unsafe {
-        header::vmd_join_animations(
-            first.as_ptr(),
-            first.len(),
-            second.as_ptr(),
-            second.len(),
-            out.as_mut_ptr(),
-            out.len(),
-            &mut written,
-        )
-    })?;
+    answered(unsafe { call(first.as_ptr(), first.len(), second.as_ptr(), second.len(), at, len, &mut written) })?;
     Ok(written as usize)
 }
 
@@ -260,40 +273,30 @@ pub fn joined_model<'f>(first: &'f [u8], second: &'f [u8]) -> &'f [u8] {
     part_of(if part[0] == 0 { first } else { second }, [part[1], part[2]])
 }
 
-/// How many bytes [`tidy`](crate::tidy) gives, and how many records of each section it keeps and drops. The scratch is lent
-/// as to [`tidy_into`].
-pub fn tidy_size(file: &[u8], scratch: &mut [u64]) -> Result<(u64, TidiedSections), Refusal> {
+#[inline]
+pub fn tidy_size(manner: Manner, file: &[u8], scratch: &mut [u64]) -> Result<(u64, TidiedSections), Refusal> {
+    let call = in_manner!(manner, vmd_tidy_size);
     let (mut size, mut kept, mut dropped) = (0, [0; 6], [0; 6]);
+    let (places, places_len) = (scratch.as_mut_ptr(), scratch.len());
     // SAFETY: two slices, of which the scratch is borrowed by this call alone, and a number and two arrays of this function's
     // own.
-    answered(unsafe {
-        header::vmd_tidy_size(
-            file.as_ptr(),
-            file.len(),
-            scratch.as_mut_ptr(),
-            scratch.len(),
-            &mut size,
-            &mut kept,
-            &mut dropped,
-        )
-    })?;
+    answered(unsafe { call(file.as_ptr(), file.len(), places, places_len, &mut size, &mut kept, &mut dropped) })?;
     Ok((size, TidiedSections::of(kept, dropped)))
 }
 
-/// [`tidy`](crate::tidy) at the front of a lent output, the rest of which stays as it is. Gives how many bytes it wrote, and
-/// how many records of each section it kept and dropped.
-///
-/// The scratch has a place for each record of the largest section, whatever stands there; `file.len() / 9` places are enough
-/// for any file. These places hold zeros after it, and further ones what they held.
-///
-/// An output as long as [`export_size`] says is long enough. With a shorter one the records that are kept are counted first,
-/// without the scratch, which can take seconds: [`tidy_size`] counts them with it.
-pub fn tidy_into(file: &[u8], scratch: &mut [u64], out: &mut [u8]) -> Result<(usize, TidiedSections), Refusal> {
+#[inline]
+pub fn tidy_into(
+    manner: Manner,
+    file: &[u8],
+    scratch: &mut [u64],
+    out: &mut [u8],
+) -> Result<(usize, TidiedSections), Refusal> {
+    let call = in_manner!(manner, vmd_tidy_animation);
     let (mut written, mut kept, mut dropped) = (0, [0; 6], [0; 6]);
     // SAFETY: three slices, of which the scratch and the output are borrowed by this call alone, and a number and two arrays of
     // this function's own.
     answered(unsafe {
-        header::vmd_tidy_animation(
+        call(
             file.as_ptr(),
             file.len(),
             scratch.as_mut_ptr(),
@@ -309,13 +312,15 @@ pub fn tidy_into(file: &[u8], scratch: &mut [u64], out: &mut [u8]) -> Result<(us
 }
 
 /// Tidies into memory of its own for as many bytes as the export has, so that the records need not be counted first.
-pub fn tidy(file: &[u8], scratch: &mut [u64]) -> Result<Tidied, Error> {
+#[inline]
+pub fn tidy(manner: Manner, file: &[u8], scratch: &mut [u64]) -> Result<Tidied, Error> {
+    let call = in_manner!(manner, vmd_tidy_animation);
     let (mut kept, mut dropped) = ([0; 6], [0; 6]);
     let (places, places_len) = (scratch.as_mut_ptr(), scratch.len());
     // SAFETY: two slices, of which the scratch is borrowed by this call alone, two arrays of this function's own, and new
     // memory for `len` bytes, of which the call reads none that it has not written.
-    let mut tidied = written(export_size(file)?, |out, len, written| unsafe {
-        header::vmd_tidy_animation(file.as_ptr(), file.len(), places, places_len, out, len, written, &mut kept, &mut dropped)
+    let mut tidied = written(export_size(manner, file)?, |out, len, written| unsafe {
+        call(file.as_ptr(), file.len(), places, places_len, out, len, written, &mut kept, &mut dropped)
     })?;
     tidied.shrink_to_fit();
     Ok(Tidied { file: tidied, sections: TidiedSections::of(kept, dropped) })
@@ -389,11 +394,12 @@ macro_rules! parts_calls {
 
 with_parts!(parts_calls! model_name);
 
-/// How long the name tables are that [`split_into`] writes.
-pub fn split_sizes(file: &[u8]) -> Result<TableSizes, Refusal> {
+#[inline]
+pub fn split_sizes(manner: Manner, file: &[u8]) -> Result<TableSizes, Refusal> {
+    let call = in_manner!(manner, vmd_split_sizes);
     let mut sizes = [0; 4];
     // SAFETY: a slice, and an array of this function's own.
-    answered(unsafe { header::vmd_split_sizes(file.as_ptr(), file.len(), &mut sizes) })?;
+    answered(unsafe { call(file.as_ptr(), file.len(), &mut sizes) })?;
     Ok(table_sizes(sizes))
 }
 
@@ -431,10 +437,11 @@ fn lengths(opening: &Opening, tables: TableSizes) -> [u64; 16] {
 
 /// Tables that are long enough for any names: 15 bytes and one end for each record, so that the library need not count the
 /// names before it writes them. Where no table may be as long as that, the names are counted.
-fn tables_to_lend(file: &[u8], opening: &Opening) -> Result<TableSizes, Refusal> {
+#[inline]
+fn tables_to_lend(manner: Manner, file: &[u8], opening: &Opening) -> Result<TableSizes, Refusal> {
     let [bones, morphs, ..] = opening.counts.map(u64::from);
     if 15 * bones.max(morphs) > u64::from(u32::MAX) {
-        return split_sizes(file);
+        return split_sizes(manner, file);
     }
     Ok(table_sizes([bones, 15 * bones, morphs, 15 * morphs]))
 }
@@ -461,45 +468,39 @@ fn lend<T: Element>(memory: *mut T) -> *mut T::InC {
     memory.cast()
 }
 
-/// The call that splits: each part is a pointer and a length, in the header's order.
+/// The calls that split: each part is a pointer and a length, in the header's order.
 macro_rules! split_calls {
     ($($part:ident)*) => {
-        /// The parts of a take at the fronts of lent memory, the rest of which stays as it is. Gives how long the two name
-        /// tables are; how long every other part is follows from the numbers of records and of IK states.
-        ///
-        /// Lent are, for b bones, m morphs, c cameras, l lights, s self-shadows and p properties with k IK states, at least
-        /// 61c, 28l, 9s and 9p + 21k bytes of records, columns of b, b, 3b, 4b and 64b and of m, m and m elements, and
-        /// tables as long as [`split_sizes`] says, for which the names are counted again. Tables of 15 bytes and one end for
-        /// each record are long enough for any names of up to 286,331,153 records, which are then not counted first.
-        pub fn split_into(file: &[u8], lent: PartsMut) -> Result<TableSizes, Refusal> {
+        #[inline]
+        pub fn split_into(manner: Manner, file: &[u8], lent: PartsMut) -> Result<TableSizes, Refusal> {
+            let call = in_manner!(manner, vmd_split_animation_into_parts);
             let mut sizes = [0; 4];
             // SAFETY: slices, of which those to write are borrowed by this call alone, and an array of this function's own.
             answered(unsafe {
-                header::vmd_split_animation_into_parts(
-                    file.as_ptr(), file.len(), $(lend(lent.$part.as_mut_ptr()), lent.$part.len(),)* &mut sizes)
+                call(file.as_ptr(), file.len(), $(lend(lent.$part.as_mut_ptr()), lent.$part.len(),)* &mut sizes)
             })?;
             Ok(table_sizes(sizes))
         }
 
-        /// The parts of a take, but for the model name.
+        /// The parts of a take, but for the model name, read in the manner in which it was opened.
         pub fn split(take: &Take) -> Result<OwnedParts, Error> {
-            let (file, opening) = (take.file(), take.opening());
+            let (manner, file, opening) = (take.manner(), take.file(), take.opening());
+            let call = in_manner!(manner, vmd_split_animation_into_parts);
             let mut parts = OwnedParts::default();
             let mut sizes = [0; 4];
-            let [$($part),*] = lengths(opening, tables_to_lend(file, opening)?);
+            let [$($part),*] = lengths(opening, tables_to_lend(manner, file, opening)?);
             $(let $part = reserve(&mut parts.$part, $part)?;)*
             // SAFETY: a slice, new memory for so many elements, of which the call reads no element that it has not written
             // (it works in the columns of indices and frames), and an array of this function's own.
             answered(unsafe {
-                header::vmd_split_animation_into_parts(
-                    file.as_ptr(), file.len(), $(lend(parts.$part.as_mut_ptr()), $part,)* &mut sizes)
+                call(file.as_ptr(), file.len(), $(lend(parts.$part.as_mut_ptr()), $part,)* &mut sizes)
             })?;
             let room = [$($part as u64),*];
             let written = lengths(opening, table_sizes(sizes));
             assert!(written.iter().zip(room).all(|(&written, room)| written <= room));
             let [$($part),*] = written;
             // SAFETY: there is room for so many elements, and the call has written them: a take has the opening of its own
-            // file, and `sizes` are those that the call gives for this file.
+            // file in this manner, and `sizes` are those that the call gives for this file.
             $(unsafe { parts.$part.set_len($part as usize) };)*
             parts.bone_name_bytes.shrink_to_fit();
             parts.bone_name_ends.shrink_to_fit();
@@ -575,12 +576,21 @@ mod tests {
         [newer, older]
     }
 
+    /// A take that the strict manner refuses, and with which number: with a byte over, and with an oversized camera count.
+    fn damaged() -> [(u32, Vec<u8>); 2] {
+        let [mut over, _] = both_editions();
+        let mut oversized = over.clone();
+        over.push(0);
+        oversized[58] = 1;
+        [(16, over), (17, oversized)]
+    }
+
     /// Places are positions in the file as it is.
     #[test]
     fn places_in_both_editions() {
         let places = both_editions().map(|file| {
             let mut scratch = [7; 3];
-            (open(&file, &mut scratch).unwrap().places, scratch)
+            (open(Manner::Strict, &file, &mut scratch).unwrap().places, scratch)
         });
         assert_eq!(places[0], ([54, 58, 62, 66, 70, 74], [74, 7, 7]));
         assert_eq!(places[1], ([44, 48, 52, 56, 60, 64], [64, 7, 7]));
@@ -637,8 +647,8 @@ mod tests {
                 let mut scratch = vec![7; places];
                 assert_eq!(opened(&file, &mut scratch), (3, [9; 6], [9; 6], [9; 3]), "{n} frames, {places} places");
                 assert_eq!(scratch, vec![7; places]);
-                assert_eq!(open(&file, &mut scratch).unwrap_err(), Refusal::ScratchTooShort);
-                assert_eq!(open(&file[..file.len() - 1], &mut scratch).unwrap_err(), Refusal::EndsEarly);
+                assert_eq!(open(Manner::Strict, &file, &mut scratch).unwrap_err(), Refusal::ScratchTooShort);
+                assert_eq!(open(Manner::Strict, &file[..file.len() - 1], &mut scratch).unwrap_err(), Refusal::EndsEarly);
             }
             for more in [0, 1, 20] {
                 let mut scratch = vec![7; needed + more];
@@ -647,6 +657,25 @@ mod tests {
                 assert_eq!(scratch, [&all[..], &vec![7; more]].concat(), "{n} frames, {more} places more");
             }
         }
+    }
+
+    /// With any scratch, and all that was lent is as it was. The lenient manner has the length of the file where a section was
+    /// emptied.
+    #[test]
+    fn openings_of_damaged_takes() {
+        for (number, file) in damaged() {
+            for places in [0, 1, 20] {
+                let mut scratch = vec![7; places];
+                assert_eq!(opened(&file, &mut scratch), (number, [9; 6], [9; 6], [9; 3]));
+                assert_eq!(scratch, vec![7; places]);
+            }
+        }
+        let [(_, over), (_, oversized)] = damaged();
+        let mut scratch = [7; 2];
+        assert_eq!(open(Manner::Lenient, &over, &mut []).unwrap_err(), Refusal::ScratchTooShort);
+        assert_eq!(open(Manner::Lenient, &over, &mut scratch).unwrap().places, [54, 58, 62, 66, 70, 74]);
+        assert_eq!(scratch, [74, 7]);
+        assert_eq!(open(Manner::Lenient, &oversized, &mut []).unwrap().places, [54, 58, 92, 92, 92, 92]);
     }
 
     /// Whether each IK state of a frame is on, and its name, in a file of so many bytes.
@@ -664,7 +693,7 @@ mod tests {
     fn property_frames_of_a_file_that_was_cut() {
         let (file, frames) = property_take(40);
         let mut scratch = [0; 3];
-        let o = open(&file, &mut scratch).unwrap();
+        let o = open(Manner::Strict, &file, &mut scratch).unwrap();
         for end in 0..=file.len() {
             let cut = &file[..end];
             for (i, frame) in frames.iter().enumerate() {
@@ -684,7 +713,7 @@ mod tests {
     fn a_scratch_of_another_file() {
         let (file, frames) = property_take(40);
         let mut scratch = [0; 3];
-        let o = open(&file, &mut scratch).unwrap();
+        let o = open(Manner::Strict, &file, &mut scratch).unwrap();
         let found = |scratch: &[u64]| -> Vec<_> { (0..60).map(|i| property_frame(&file, &o, scratch, i)).collect() };
         let mut own: Vec<_> = frames.iter().map(|frame| Some(frame.record)).collect();
         own.resize(60, None);
@@ -748,7 +777,7 @@ mod tests {
     #[test]
     fn the_property_frame_at_a_place() {
         let (file, frames) = property_take(20);
-        let mut place = open(&file, &mut [0; 2]).unwrap().places[5];
+        let mut place = open(Manner::Strict, &file, &mut [0; 2]).unwrap().places[5];
         for frame in &frames {
             assert_eq!(place, frame.place as u64);
             let (record, next) = property_frame_at(&file, place).unwrap();
@@ -812,6 +841,9 @@ mod tests {
         assert_eq!(answers(&file, 82), ([15, 15], 7, 7));
         assert_eq!(answers(&file[..53], 0), ([1, 1], 7, 7));
         assert_eq!(answers(&[0; 30], 0), ([2, 2], 7, 7));
+        for (number, file) in damaged() {
+            assert_eq!(answers(&file, 82), ([number; 2], 7, 7));
+        }
         assert_eq!(out[82..], [7; 3]);
     }
 
@@ -848,6 +880,9 @@ mod tests {
         assert_eq!(tidying(&file, 0, 0), [refused(3); 2]);
         assert_eq!(tidying(&file[..file.len() - 1], 0, 0), [refused(1); 2]);
         assert_eq!(tidying(&[0; 30], 0, 0), [refused(2); 2]);
+        for (number, file) in damaged() {
+            assert_eq!([0, 99].map(|room| tidying(&file, room, room)), [[refused(number); 2]; 2]);
+        }
     }
 
     /// Tables of 15 bytes for each record as long as a table may be so long, else as long as the file needs them.
@@ -857,10 +892,14 @@ mod tests {
         file.resize(54, 0);
         let opening = |bones, morphs| Opening { counts: [bones, morphs, 0, 0, 0, 0], places: [0; 6], totals: [0; 3] };
         let most = u32::MAX / 15;
-        let lent = tables_to_lend(&file, &opening(7, most)).unwrap();
+        let lent = tables_to_lend(Manner::Strict, &file, &opening(7, most)).unwrap();
         let expected = table_sizes([7, 105, most.into(), u32::MAX.into()]);
         assert_eq!(lent, expected);
-        assert_eq!(tables_to_lend(&file, &opening(most + 1, 0)), Ok(TableSizes::default()));
-        assert_eq!(tables_to_lend(&file, &opening(0, u32::MAX)), Ok(TableSizes::default()));
+        assert_eq!(tables_to_lend(Manner::Strict, &file, &opening(most + 1, 0)), Ok(TableSizes::default()));
+        assert_eq!(tables_to_lend(Manner::Strict, &file, &opening(0, u32::MAX)), Ok(TableSizes::default()));
+        let [_, (_, oversized)] = damaged();
+        let lent = |manner| tables_to_lend(manner, &oversized, &opening(most + 1, 0));
+        assert_eq!(lent(Manner::Strict), Err(Refusal::CountOversized));
+        assert_eq!(lent(Manner::Lenient), Ok(TableSizes::default()));
     }
 }

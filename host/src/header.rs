@@ -53,6 +53,10 @@ unsafe extern "C" {
         file: *const u8, file_len: usize, scratch: *mut u64, scratch_len: usize, counts: *mut [u32; 6],
         places: *mut [u64; 6], totals: *mut [u64; 3],
     ) -> u32;
+    pub fn vmd_parse_animation_lenient(
+        file: *const u8, file_len: usize, scratch: *mut u64, scratch_len: usize, counts: *mut [u32; 6],
+        places: *mut [u64; 6], totals: *mut [u64; 3],
+    ) -> u32;
     pub fn vmd_bone_frame(
         file: *const u8, file_len: usize, counts: *const [u32; 6], places: *const [u64; 6], i: usize,
         record: *mut [u32; 8],
@@ -110,13 +114,28 @@ unsafe extern "C" {
         part: *mut [u64; 2],
     );
     pub fn vmd_export_size(file: *const u8, file_len: usize, size: *mut u64) -> u32;
+    pub fn vmd_export_size_lenient(file: *const u8, file_len: usize, size: *mut u64) -> u32;
     pub fn vmd_export_animation(file: *const u8, file_len: usize, out: *mut u8, out_len: usize, written: *mut u64) -> u32;
+    pub fn vmd_export_animation_lenient(
+        file: *const u8, file_len: usize, out: *mut u8, out_len: usize, written: *mut u64,
+    ) -> u32;
     pub fn vmd_export_older_size(file: *const u8, file_len: usize, size: *mut u64) -> u32;
+    pub fn vmd_export_older_size_lenient(file: *const u8, file_len: usize, size: *mut u64) -> u32;
     pub fn vmd_export_older_animation(
         file: *const u8, file_len: usize, out: *mut u8, out_len: usize, written: *mut u64,
     ) -> u32;
+    pub fn vmd_export_older_animation_lenient(
+        file: *const u8, file_len: usize, out: *mut u8, out_len: usize, written: *mut u64,
+    ) -> u32;
     pub fn vmd_join_size(first: *const u8, first_len: usize, second: *const u8, second_len: usize, size: *mut u64) -> u32;
+    pub fn vmd_join_size_lenient(
+        first: *const u8, first_len: usize, second: *const u8, second_len: usize, size: *mut u64,
+    ) -> u32;
     pub fn vmd_join_animations(
+        first: *const u8, first_len: usize, second: *const u8, second_len: usize,
+        out: *mut u8, out_len: usize, written: *mut u64,
+    ) -> u32;
+    pub fn vmd_join_animations_lenient(
         first: *const u8, first_len: usize, second: *const u8, second_len: usize,
         out: *mut u8, out_len: usize, written: *mut u64,
     ) -> u32;
@@ -125,7 +144,15 @@ unsafe extern "C" {
         file: *const u8, file_len: usize, scratch: *mut u64, scratch_len: usize, size: *mut u64, kept: *mut [u32; 6],
         dropped: *mut [u32; 6],
     ) -> u32;
+    pub fn vmd_tidy_size_lenient(
+        file: *const u8, file_len: usize, scratch: *mut u64, scratch_len: usize, size: *mut u64, kept: *mut [u32; 6],
+        dropped: *mut [u32; 6],
+    ) -> u32;
     pub fn vmd_tidy_animation(
+        file: *const u8, file_len: usize, scratch: *mut u64, scratch_len: usize, out: *mut u8, out_len: usize,
+        written: *mut u64, kept: *mut [u32; 6], dropped: *mut [u32; 6],
+    ) -> u32;
+    pub fn vmd_tidy_animation_lenient(
         file: *const u8, file_len: usize, scratch: *mut u64, scratch_len: usize, out: *mut u8, out_len: usize,
         written: *mut u64, kept: *mut [u32; 6], dropped: *mut [u32; 6],
     ) -> u32;
@@ -172,7 +199,28 @@ unsafe extern "C" {
         written: *mut u64,
     ) -> u32;
     pub fn vmd_split_sizes(file: *const u8, file_len: usize, sizes: *mut [u64; 4]) -> u32;
+    pub fn vmd_split_sizes_lenient(file: *const u8, file_len: usize, sizes: *mut [u64; 4]) -> u32;
     pub fn vmd_split_animation_into_parts(
+        file: *const u8, file_len: usize,
+        bone_name_bytes: *mut u8, bone_name_bytes_len: usize,
+        bone_name_ends: *mut u32, bone_name_ends_len: usize,
+        morph_name_bytes: *mut u8, morph_name_bytes_len: usize,
+        morph_name_ends: *mut u32, morph_name_ends_len: usize,
+        camera_frames: *mut u8, camera_frames_len: usize,
+        light_frames: *mut u8, light_frames_len: usize,
+        self_shadow_frames: *mut u8, self_shadow_frames_len: usize,
+        property_frames: *mut u8, property_frames_len: usize,
+        bone_name_indices: *mut u32, bone_name_indices_len: usize,
+        bone_frames: *mut u32, bone_frames_len: usize,
+        bone_translations_xyz: *mut u32, bone_translations_xyz_len: usize,
+        bone_rotations_xyzw: *mut u32, bone_rotations_xyzw_len: usize,
+        bone_interpolations: *mut u8, bone_interpolations_len: usize,
+        morph_name_indices: *mut u32, morph_name_indices_len: usize,
+        morph_frames: *mut u32, morph_frames_len: usize,
+        morph_weights: *mut u32, morph_weights_len: usize,
+        sizes: *mut [u64; 4],
+    ) -> u32;
+    pub fn vmd_split_animation_into_parts_lenient(
         file: *const u8, file_len: usize,
         bone_name_bytes: *mut u8, bone_name_bytes_len: usize,
         bone_name_ends: *mut u32, bone_name_ends_len: usize,

@@ -4,6 +4,9 @@
 //! Files of both editions are read: the newer begin with `Vocaloid Motion Data 0002`, the older with `Vocaloid Motion Data
 //! file`. What is written is of the newer edition, but for [`export_older`].
 //!
+//! A whole take is read in the strict manner: a damaged file is refused, of which a part would be lost without a word.
+//! [`Manner::Lenient`] has the same calls for such files; a [`Season`] is lenient.
+//!
 //! A thin layer over the C interface of the proved library (`include/vmd.h`). What the calls answer is its doing; this crate
 //! adds the types of Rust, memory for what is written, and [`save`], which puts a take in the place of another and loses
 //! neither on the way. The calls keep no state and can be made from any thread; [`Take::parts`], [`split_into`],
@@ -48,6 +51,7 @@
 mod c;
 #[allow(unsafe_code)]
 mod header;
+mod manner;
 mod parts;
 mod properties;
 mod refusal;
@@ -60,17 +64,15 @@ mod system;
 mod take;
 mod tidy;
 
-pub use c::{
-    export_into, export_older_into, export_older_size, export_size, first_fault, join_into, join_size, split_into,
-    split_sizes, tidy_into, tidy_size,
-};
-pub use parts::{NameTable, OwnedParts, Parts, PartsMut, TableSizes};
+pub use c::first_fault;
+pub use manner::Manner;
+pub use parts::{NameTable, OwnedParts, Parts, PartsMut, TableSizes, split_into, split_sizes};
 pub use refusal::{Error, Refusal};
 pub use save::{FileId, SaveError, save, save_and_clear};
 pub use season::{Figures, Mean, Season};
 pub use shown::shown;
 pub use take::{
-    BoneFrame, CameraFrame, IkState, LightFrame, MorphFrame, PropertyFrame, SelfShadowFrame, Take, export, export_older,
-    join, joined_model,
+    BoneFrame, CameraFrame, IkState, LightFrame, MorphFrame, PropertyFrame, SelfShadowFrame, Take, export, export_into,
+    export_older, export_older_into, export_older_size, export_size, join, join_into, join_size, joined_model,
 };
-pub use tidy::{Tidied, TidiedSection, TidiedSections, tidy};
+pub use tidy::{Tidied, TidiedSection, TidiedSections, tidy, tidy_into, tidy_size};

@@ -18,7 +18,7 @@ use std::process::ExitCode;
 
 use progress::Progress;
 use tree::Tree;
-use vmd::{Error, FileId, Refusal, Season, Take, TidiedSections, shown};
+use vmd::{Error, FileId, Manner, Refusal, Season, TidiedSections, shown};
 use words::Words;
 
 const HELP: &str = "\
@@ -43,7 +43,14 @@ vmd: VMD takes (MikuMikuDance motion files)
                                   in all takes, and the smallest and the largest number of them in a take; the distinct
                                   bone and morph names of each take, added up; the records of all sections, and these
                                   divided by the accepted takes, with the remainder
+  --lenient                       an option of 'export', 'join' and 'tidy': they read a damaged take too, and OUT has lost a
+                                  part of it (see below)
   vmd --help, vmd --version
+
+A damaged take is refused by the commands that save, 'export', 'join' and 'tidy': with 16 where there are bytes after its
+last property frame, or after a property count of 0, and with 17 where a camera, light or self-shadow count is too large for
+the bytes after it. With the option --lenient they read it, and OUT has lost a part of it: with 16 those bytes, with 17 that
+section's records and every section after it, IK frames among them. 'list' and 'season' save nothing and always read so.
 
 Takes of both editions are read: the newer begin with 'Vocaloid Motion Data 0002', the older with 'Vocaloid Motion Data
 file'. What is written is of the newer edition, but for 'vmd export --older'.
@@ -73,10 +80,13 @@ const HEADER: u64 = 50;
 /// The option that has a take saved in the older edition.
 const OLDER: &str = "--older";
 
+/// The option that has takes read in the lenient manner.
+const LENIENT: &str = "--lenient";
+
 /// Why the command did not do what it was asked.
 enum Failure {
-    /// A take that is refused: its name, and why.
-    Refused(String, Refusal),
+    /// A take that is refused: its name, why, and what is told of an option that helps.
+    Refused(String, Refusal, &'static str),
     /// A take that counts as refused only because a figure of the season has no room for it: its name.
     NoRoom(String),
     /// A file that cannot be read or written, or too little memory.
@@ -97,15 +107,18 @@ impl Failure {
 
     fn of(name: &OsStr, error: Error) -> Self {
         match error {
-            Error::Refused(refusal) => Failure::Refused(shown_input(name), refusal),
+            Error::Refused(refusal) => Failure::Refused(shown_input(name), refusal, ""),
             Error::NoMemory(_) => Failure::Io(format!("{}: {error}", shown_input(name))),
         }
     }
 
-    /// With the command's name before what is wrong with its words.
-    fn in_command(self, command: &OsStr) -> Self {
+    /// With the command's name before what is wrong with its words, and with what its options can do about a refusal.
+    fn in_command(self, command: &OsStr, options: &[&str]) -> Self {
         match self {
             Failure::Usage(text) => Failure::Usage(format!("{}: {text}", shown(command))),
+            Failure::Refused(name, refusal, _) if options.contains(&LENIENT) => {
+                Failure::Refused(name, refusal, lost_by_lenient(refusal))
+            }
             other => other,
         }
     }
@@ -113,9 +126,22 @@ impl Failure {
     /// What is listed of a take that is refused.
     fn line(&self) -> Option<String> {
         match self {
-            Failure::Refused(_, refusal) => Some(format!("refused {}", refusal.number())),
+            Failure::Refused(_, refusal, _) => Some(format!("refused {}", refusal.number())),
             _ => None,
         }
+    }
+}
+
+/// That --lenient reads a take which is refused for this, and what is lost by saving it then; nothing of a refusal that both
+/// manners give.
+fn lost_by_lenient(refusal: Refusal) -> &'static str {
+    match refusal {
+        Refusal::BytesOver => "; --lenient reads such a file, and what is saved then has lost these bytes",
+        Refusal::CountOversized => {
+            "; --lenient reads such a file, and what is saved then has lost that section's records and every section after \
+             it, IK frames among them"
+        }
+        _ => "",
     }
 }
 
@@ -129,7 +155,7 @@ impl From<String> for Failure {
 impl fmt::Display for Failure {
     fn fmt(&self, f: &mut fmt::Formatter<'_>) -> fmt::Result {
         match self {
-            Failure::Refused(name, refusal) => write!(f, "{name}: {}", Error::Refused(*refusal)),
+            Failure::Refused(name, refusal, help) => write!(f, "{name}: {}{help}", Error::Refused(*refusal)),
             Failure::NoRoom(name) => write!(f, "{name}: counts as refused: with it a figure would pass {}", u64::MAX),
             Failure::Io(text) | Failure::Unflushed(text) => f.write_str(text),
             Failure::Usage(text) => write!(f, "{text}; 'vmd --help' tells more"),
@@ -163,9 +189,9 @@ fn run(words: &[OsString]) -> Result<u8, Failure> {
         Some("--help" | "-h" | "help") => return print(HELP),
         Some("--version") => return print(concat!("vmd ", env!("CARGO_PKG_VERSION"), "\n")),
         Some("list") => (list, &[]),
-        Some("export") => (export, &[OLDER]),
-        Some("join") => (join, &[]),
-        Some("tidy") => (tidy, &[]),
+        Some("export") => (export, &[OLDER, LENIENT]),
+        Some("join") => (join, &[LENIENT]),
+        Some("tidy") => (tidy, &[LENIENT]),
         Some("season") => (season, &[]),
         _ => return Err(Failure::Usage(format!("there is no command '{}'", shown(command)))),
     };
@@ -174,7 +200,7 @@ fn run(words: &[OsString]) -> Result<u8, Failure> {
         Ok(None) => print(HELP),
         Err(wrong) => Err(wrong.into()),
     }
-    .map_err(|failure| failure.in_command(command))
+    .map_err(|failure| failure.in_command(command, options))
 }
 
 /// The files of a command that writes none.
@@ -208,9 +234,9 @@ fn list(words: &Words) -> Result<u8, Failure> {
     Ok(status)
 }
 
-/// What is listed of a take.
+/// What is listed of a take, which is read in the lenient manner.
 fn line(file: &[u8]) -> Result<String, Error> {
-    let take = Take::open(file)?;
+    let take = Manner::Lenient.open(file)?;
     Ok(format!(
         "{} {} {} {} {} {} {} {} {} {}",
         take.bones(),
@@ -222,8 +248,13 @@ fn line(file: &[u8]) -> Result<String, Error> {
         take.ik_states(),
         take.smallest_frame(),
         take.largest_frame(),
-        vmd::export_size(file)?
+        Manner::Lenient.export_size(file)?
     ))
+}
+
+/// The manner in which a command that saves reads its takes.
+fn manner(words: &Words) -> Manner {
+    if words.has(LENIENT) { Manner::Lenient } else { Manner::Strict }
 }
 
 /// The files of a command that makes one of another.
@@ -237,9 +268,9 @@ fn in_and_out<'w>(words: &Words<'w>) -> Result<[&'w OsStr; 2], Failure> {
 
 fn export(words: &Words) -> Result<u8, Failure> {
     let [from, to] = in_and_out(words)?;
-    let export = if words.has(OLDER) { vmd::export_older } else { vmd::export };
+    let export = if words.has(OLDER) { Manner::export_older } else { Manner::export };
     let mut sources = Sources::default();
-    let saved = export(&sources.read(from)?).map_err(|error| Failure::of(from, error))?;
+    let saved = export(manner(words), &sources.read(from)?).map_err(|error| Failure::of(from, error))?;
     sources.write(to, &saved)
 }
 
@@ -248,14 +279,15 @@ fn join(words: &Words) -> Result<u8, Failure> {
     let [_, .., last] = words.files[..] else {
         return Err(Failure::Usage("two files at least are needed, FIRST and SECOND".into()));
     };
+    let manner = manner(words);
     // Both are freed with the join. One that fails is told with the last take that is in it.
     let join =
-        |last| move |first: Vec<u8>, second: Vec<u8>| vmd::join(&first, &second).map_err(|error| Failure::of(last, error));
+        |last| move |first: Vec<u8>, second: Vec<u8>| manner.join(&first, &second).map_err(|error| Failure::of(last, error));
     memory::give_back_what_is_freed();
     let mut sources = Sources::default();
     let mut tree = Tree::new();
     for name in &words.files {
-        tree.add(sources.read_accepted(name)?, join(name))?;
+        tree.add(sources.read_accepted(name, manner)?, join(name))?;
     }
     let joined = tree.all(join(last))?.expect("there are two takes at least");
     sources.write(to, &joined)
@@ -264,7 +296,7 @@ fn join(words: &Words) -> Result<u8, Failure> {
 fn tidy(words: &Words) -> Result<u8, Failure> {
     let [from, to] = in_and_out(words)?;
     let mut sources = Sources::default();
-    let tidied = vmd::tidy(&sources.read(from)?).map_err(|error| Failure::of(from, error))?;
+    let tidied = manner(words).tidy(&sources.read(from)?).map_err(|error| Failure::of(from, error))?;
     let saved = sources.write(to, &tidied.file);
     // Told of a take that was saved: of one that is as it was they would not be true.
     if matches!(saved, Ok(_) | Err(Failure::Unflushed(_))) {
@@ -305,12 +337,12 @@ fn season(words: &Words) -> Result<u8, Failure> {
     Ok(status)
 }
 
-/// Adds a take, or says why it counts as refused.
+/// Adds a take, or says why it counts as refused: a season reads in the lenient manner.
 fn add(season: &mut Season, name: &OsStr, file: &[u8]) -> Result<(), Failure> {
     if season.add(file) {
         return Ok(());
     }
-    Err(match vmd::export_size(file) {
+    Err(match Manner::Lenient.export_size(file) {
         Err(refusal) => Failure::of(name, refusal.into()),
         Ok(_) => Failure::NoRoom(shown_input(name)),
     })
@@ -366,8 +398,8 @@ impl Sources {
         })
     }
 
-    /// A whole file, or the header of one that is refused for it: the answer is the same. Memory for a file whose length is
-    /// known is asked for at once.
+    /// A whole file, or the header of one that is refused for it: the answer is the same, in either manner. Memory for a file
+    /// whose length is known is asked for at once.
     fn read_whole(&mut self, name: &OsStr) -> io::Result<Vec<u8>> {
         let mut file = if name == "-" { streams::standard_input() } else { File::open(name) }?;
         let found = file.metadata()?;
@@ -387,10 +419,10 @@ impl Sources {
         Ok(bytes)
     }
 
-    /// A file that is accepted, so that a refusal names the file it is of.
-    fn read_accepted(&mut self, name: &OsStr) -> Result<Vec<u8>, Failure> {
+    /// A file that is accepted in a manner, so that a refusal names the file it is of.
+    fn read_accepted(&mut self, name: &OsStr, manner: Manner) -> Result<Vec<u8>, Failure> {
         let file = self.read(name)?;
-        vmd::export_size(&file).map_err(|refusal| Failure::of(name, refusal.into()))?;
+        manner.export_size(&file).map_err(|refusal| Failure::of(name, refusal.into()))?;
         Ok(file)
     }
 
@@ -427,12 +459,15 @@ mod tests {
     fn a_take_that_a_season_has_no_room_for() {
         let mut take = b"Vocaloid Motion Data 0002".to_vec();
         take.resize(54, 0);
+        let damaged = [&take[..], &[0, 0, 0, 0, 1, 0, 0, 0]].concat(); // a camera, which is not there
         let mut season = Season { accepted: u64::MAX, ..Season::new() };
-        let failure = add(&mut season, "take".as_ref(), &take).unwrap_err();
-        assert_eq!(failure.to_string(), "take: counts as refused: with it a figure would pass 18446744073709551615");
-        assert_eq!((failure.status(), season.refused), (1, 1));
+        for (take, refused) in [(&take, 1), (&damaged, 2)] {
+            let failure = add(&mut season, "take".as_ref(), take).unwrap_err();
+            assert_eq!(failure.to_string(), "take: counts as refused: with it a figure would pass 18446744073709551615");
+            assert_eq!((failure.status(), season.refused), (1, refused));
+        }
         let failure = add(&mut season, "take".as_ref(), &take[..53]).unwrap_err();
         assert_eq!(failure.to_string(), "take: refused 1: the file ends early");
-        assert_eq!((failure.status(), season.refused), (1, 2));
+        assert_eq!((failure.status(), season.refused), (1, 3));
     }
 }

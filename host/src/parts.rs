@@ -1,4 +1,5 @@
 use crate::c;
+use crate::manner::Manner;
 use crate::refusal::{Error, Refusal};
 use crate::take::Bits;
 
@@ -133,6 +134,22 @@ pub struct TableSizes {
     pub morph_names: u64,
     /// How many bytes they have together.
     pub morph_name_bytes: u64,
+}
+
+/// How long the name tables are that [`split_into`] writes.
+pub fn split_sizes(file: &[u8]) -> Result<TableSizes, Refusal> {
+    Manner::Strict.split_sizes(file)
+}
+
+/// The parts of a take at the fronts of lent memory, the rest of which stays as it is. Gives how long the two name tables are;
+/// how long every other part is follows from the numbers of records and of IK states.
+///
+/// Lent are, for b bones, m morphs, c cameras, l lights, s self-shadows and p properties with k IK states, at least 61c, 28l,
+/// 9s and 9p + 21k bytes of records, columns of b, b, 3b, 4b and 64b and of m, m and m elements, and tables as long as
+/// [`split_sizes`] says, for which the names are counted again. Tables of 15 bytes and one end for each record are long enough
+/// for any names of up to 286,331,153 records, which are then not counted first.
+pub fn split_into(file: &[u8], lent: PartsMut) -> Result<TableSizes, Refusal> {
+    Manner::Strict.split_into(file, lent)
 }
 
 /// What goes over all parts but the model name. A part that is left out is an error.

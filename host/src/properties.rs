@@ -6,23 +6,24 @@ use crate::c::{self, Opening};
 use crate::header::VMD_FRAMES_PER_PLACE;
 use crate::header::indices::VMD_PROPERTIES;
 use crate::header::sizes::VMD_PROPERTY_SIZE;
+use crate::manner::Manner;
 use crate::refusal::{Error, Refusal};
 use crate::take::PropertyFrame;
 
 /// The places that are lent first: 8 KiB, and enough for 16,384 property frames, more than most takes have.
 const FIRST_PLACES: usize = 1024;
 
-/// What opening a file gives, and a scratch of just the places that it needs.
+/// What opening a file in a manner gives, and a scratch of just the places that it needs.
 ///
 /// How many property frames there are is not known before: a refused opening gives its number only. So few places are lent
 /// first, and where these are not enough as many as a file of this length could need.
-pub fn open(file: &[u8]) -> Result<(Opening, Vec<u64>), Error> {
+pub fn open(manner: Manner, file: &[u8]) -> Result<(Opening, Vec<u64>), Error> {
     let most = (file.len() / VMD_PROPERTY_SIZE as usize).div_ceil(VMD_FRAMES_PER_PLACE);
     let mut scratch = zeros(most.min(FIRST_PLACES))?;
-    let opening = match c::open(file, &mut scratch) {
+    let opening = match c::open(manner, file, &mut scratch) {
         Err(Refusal::ScratchTooShort) => {
             scratch = zeros(most)?;
-            c::open(file, &mut scratch)
+            c::open(manner, file, &mut scratch)
         }
         answer => answer,
     }?;
@@ -137,7 +138,7 @@ mod tests {
         for n in [0, 1, 15, 16, 17, 33, 16_368, 16_369, 16_383, 16_384, 16_385, 16_400, 16_401, 50_000] {
             for bones in [0, 1, 300] {
                 let file = take(bones, n);
-                let (opening, scratch) = open(&file).unwrap();
+                let (opening, scratch) = open(Manner::Strict, &file).unwrap();
                 assert_eq!(opening.counts, [bones as u32, 0, 0, 0, 0, n as u32]);
                 let places = (0..n).step_by(16).map(|i| (74 + 111 * bones + 9 * i) as u64);
                 assert_eq!(scratch, places.collect::<Vec<_>>(), "{n} frames, {bones} bones");
@@ -152,7 +153,7 @@ mod tests {
     }
 
     fn walk<'t>(file: &'t [u8], scratch: &'t [u64]) -> PropertyWalk<'t, impl Fn(u64, PropertyFrame) -> (u64, u32)> {
-        let (opening, _) = open(file).unwrap();
+        let (opening, _) = open(Manner::Strict, file).unwrap();
         PropertyWalk::new(file, &opening, scratch, |place, frame| (place, frame.frame))
     }
 

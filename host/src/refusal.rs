@@ -81,6 +81,12 @@ refusals! {
     PartsDoNotFit = 14, "a buffer for the parts is too short, or a name table passes 4,294,967,295 bytes";
     /// A model name over 10 bytes, which the older edition cannot hold.
     ModelNameTooLong = 15, "the model name takes more than 10 bytes, and the older edition has no room for it";
+    /// Bytes after the last property frame, or after a property count of 0. The strict manner alone gives it
+    /// ([`Manner`](crate::Manner)).
+    BytesOver = 16, "there are bytes after the last property frame, or after a property count of 0";
+    /// A camera, light or self-shadow count whose records exceed the bytes left. The strict manner alone gives it
+    /// ([`Manner`](crate::Manner)).
+    CountOversized = 17, "a camera, light or self-shadow count is too large for the bytes after it";
 }
 
 impl std::error::Error for Refusal {}

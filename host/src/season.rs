@@ -3,6 +3,8 @@ use crate::header::indices::*;
 
 /// Figures over takes that are added one after another.
 ///
+/// Takes are read in the lenient manner alone ([`Manner::Lenient`](crate::Manner::Lenient)).
+///
 /// A take that is refused counts in `refused` and adds nothing else. So does one with which any other of the 64-bit figures
 /// would pass its largest value; `refused` stops at its own. Any numbers may stand in the fields. Interpolation bytes, and the
 /// bytes after a name's zero, make no difference.
@@ -82,9 +84,20 @@ impl Season {
         Season::of(&c::season_none())
     }
 
-    /// Adds a take. True where it was accepted and counted, false where it counts as refused.
+    /// Adds a take, which is read in the lenient manner. True where it was accepted and counted, false where it counts as
+    /// refused.
     ///
     /// While `accepted` is 0 the first take that is accepted sets the smallest and the largest numbers.
+    ///
+    /// ```
+    /// let mut file = b"Vocaloid Motion Data 0002".to_vec();
+    /// file.resize(58, 0); // a model name of no bytes, no bones and no morphs
+    /// file.extend(1u32.to_le_bytes()); // a camera, which is not there
+    /// assert_eq!(vmd::export_size(&file), Err(vmd::Refusal::CountOversized));
+    /// let mut season = vmd::Season::new();
+    /// assert!(season.add(&file));
+    /// assert_eq!((season.accepted, season.cameras.total), (1, 0));
+    /// ```
     pub fn add(&mut self, file: &[u8]) -> bool {
         let accepted = self.accepted;
         let mut arrays = self.arrays();

@@ -2,11 +2,12 @@ use std::borrow::Cow;
 
 use crate::c;
 use crate::header::indices::{VMD_TOTAL_IK_STATES, VMD_TOTAL_LARGEST_FRAME, VMD_TOTAL_SMALLEST_FRAME};
+use crate::manner::Manner;
 use crate::parts::OwnedParts;
 use crate::properties::{self, PropertyWalk};
-use crate::refusal::Error;
+use crate::refusal::{Error, Refusal};
 
-/// An accepted take: the file's bytes, owned or borrowed, and what opening found in them.
+/// An accepted take: the file's bytes, owned or borrowed, the manner in which they were read, and what opening found in them.
 ///
 /// Records are fetched by number, `None` at and above the count, or come one after another. Names are the bytes before the
 /// first zero, and lie in the file; floats have the file's 32 bits.
@@ -34,6 +35,7 @@ use crate::refusal::Error;
 /// payloads too, and a NaN is equal to itself.
 #[derive(Clone, Debug)]
 pub struct Take<'a> {
+    manner: Manner,
     file: Cow<'a, [u8]>,
     opening: c::Opening,
     /// Where every 16th property frame stands.
@@ -192,11 +194,20 @@ fn records<R>(count: usize, fetch: impl Fn(usize) -> Option<R>) -> impl ExactSiz
 }
 
 impl<'a> Take<'a> {
-    /// Checks a whole file. It may be lent (`&[u8]`, `&Vec<u8>`) or given (`Vec<u8>`).
+    /// Checks a whole file, in the strict manner; [`Manner::open`] names another. The file may be lent (`&[u8]`, `&Vec<u8>`)
+    /// or given (`Vec<u8>`).
     pub fn open(file: impl Into<Cow<'a, [u8]>>) -> Result<Self, Error> {
-        let file = file.into();
-        let (opening, scratch) = properties::open(&file)?;
-        Ok(Take { file, opening, scratch })
+        Manner::Strict.open(file)
+    }
+
+    pub(crate) fn open_in(manner: Manner, file: Cow<'a, [u8]>) -> Result<Self, Error> {
+        let (opening, scratch) = properties::open(manner, &file)?;
+        Ok(Take { manner, file, opening, scratch })
+    }
+
+    /// The manner in which it was opened. What reads the whole file again, as [`parts`](Take::parts), reads it so too.
+    pub fn manner(&self) -> Manner {
+        self.manner
     }
 
     /// The file's bytes.
@@ -204,7 +215,7 @@ impl<'a> Take<'a> {
         &self.file
     }
 
-    /// What opening this very file gave.
+    /// What opening this very file in this manner gave.
     pub(crate) fn opening(&self) -> &c::Opening {
         &self.opening
     }
@@ -389,8 +400,9 @@ impl<'a> Take<'a> {
     }
 
     /// What the take would be built from. Where the builder takes these parts, the file it gives is the take's
-    /// [`export`]; it does not take names that are not good Shift_JIS ([`first_fault`](crate::first_fault)), floats that are
-    /// not finite, and self-shadow modes above 2, which a file may have.
+    /// [`export`](Manner::export) in the manner in which it was opened; it does not take names that are not good Shift_JIS
+    /// ([`first_fault`](crate::first_fault)), floats that are not finite, and self-shadow modes above 2, which a file may
+    /// have.
     ///
     /// Refused with [`PartsDoNotFit`](crate::Refusal::PartsDoNotFit) where the names of a table pass 4,294,967,295 bytes.
     pub fn parts(&self) -> Result<OwnedParts, Error> {
@@ -410,7 +422,17 @@ impl<'a> Take<'a> {
 /// # Ok::<(), vmd::Error>(())
 /// ```
 pub fn export(file: &[u8]) -> Result<Vec<u8>, Error> {
-    c::export(file)
+    Manner::Strict.export(file)
+}
+
+/// How many bytes [`export`] gives.
+pub fn export_size(file: &[u8]) -> Result<u64, Refusal> {
+    Manner::Strict.export_size(file)
+}
+
+/// [`export`] at the front of a lent output, the rest of which stays as it is. Gives how many bytes it wrote.
+pub fn export_into(file: &[u8], out: &mut [u8]) -> Result<usize, Refusal> {
+    Manner::Strict.export_into(file, out)
 }
 
 /// The canonical file of the older edition with a take's records and model name: 10 bytes shorter than [`export`], with the
@@ -431,13 +453,33 @@ pub fn export(file: &[u8]) -> Result<Vec<u8>, Error> {
 /// # Ok::<(), vmd::Error>(())
 /// ```
 pub fn export_older(file: &[u8]) -> Result<Vec<u8>, Error> {
-    c::export_older(file)
+    Manner::Strict.export_older(file)
+}
+
+/// How many bytes [`export_older`] gives: 10 fewer than [`export`].
+pub fn export_older_size(file: &[u8]) -> Result<u64, Refusal> {
+    Manner::Strict.export_older_size(file)
+}
+
+/// [`export_older`] at the front of a lent output, the rest of which stays as it is. Gives how many bytes it wrote.
+pub fn export_older_into(file: &[u8], out: &mut [u8]) -> Result<usize, Refusal> {
+    Manner::Strict.export_older_into(file, out)
 }
 
 /// The canonical file whose every section has the first take's records, then the second's. Its model name is the first's,
 /// or the second's where that is empty.
 pub fn join(first: &[u8], second: &[u8]) -> Result<Vec<u8>, Error> {
-    c::join(first, second)
+    Manner::Strict.join(first, second)
+}
+
+/// How many bytes [`join`] gives.
+pub fn join_size(first: &[u8], second: &[u8]) -> Result<u64, Refusal> {
+    Manner::Strict.join_size(first, second)
+}
+
+/// [`join`] at the front of a lent output, the rest of which stays as it is. Gives how many bytes it wrote.
+pub fn join_into(first: &[u8], second: &[u8], out: &mut [u8]) -> Result<usize, Refusal> {
+    Manner::Strict.join_into(first, second, out)
 }
 
 /// The model name of the join of two files.

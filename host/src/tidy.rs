@@ -1,7 +1,8 @@
 use crate::c;
 use crate::header::indices::*;
+use crate::manner::Manner;
 use crate::properties;
-use crate::refusal::Error;
+use crate::refusal::{Error, Refusal};
 
 /// What [`tidy`] gives: the tidied file, and how many records of each section it kept and dropped.
 #[derive(Clone, Debug, PartialEq, Eq)]
@@ -78,6 +79,29 @@ impl TidiedSections {
 /// # Ok::<(), vmd::Error>(())
 /// ```
 pub fn tidy(file: &[u8]) -> Result<Tidied, Error> {
-    let largest_section = properties::open(file)?.0.counts.into_iter().max().unwrap_or(0);
-    c::tidy(file, &mut properties::zeros(largest_section as usize)?)
+    Manner::Strict.tidy(file)
+}
+
+/// How many bytes [`tidy`] gives, and how many records of each section it keeps and drops. The scratch is lent as to
+/// [`tidy_into`].
+pub fn tidy_size(file: &[u8], scratch: &mut [u64]) -> Result<(u64, TidiedSections), Refusal> {
+    Manner::Strict.tidy_size(file, scratch)
+}
+
+/// [`tidy`] at the front of a lent output, the rest of which stays as it is. Gives how many bytes it wrote, and how many
+/// records of each section it kept and dropped.
+///
+/// The scratch has a place for each record of the largest section, whatever stands there; `file.len() / 9` places are enough
+/// for any file. These places hold zeros after it, and further ones what they held.
+///
+/// An output as long as [`export_size`](crate::export_size) says is long enough. With a shorter one the records that are kept
+/// are counted first, without the scratch, which can take seconds: [`tidy_size`] counts them with it.
+pub fn tidy_into(file: &[u8], scratch: &mut [u64], out: &mut [u8]) -> Result<(usize, TidiedSections), Refusal> {
+    Manner::Strict.tidy_into(file, scratch, out)
+}
+
+/// A take tidied with a scratch of its own, which has as many places as are needed.
+pub(crate) fn with_own_scratch(manner: Manner, file: &[u8]) -> Result<Tidied, Error> {
+    let largest_section = properties::open(manner, file)?.0.counts.into_iter().max().unwrap_or(0);
+    c::tidy(manner, file, &mut properties::zeros(largest_section as usize)?)
 }

@@ -31,6 +31,15 @@ fn property() -> Vec<u8> {
     file
 }
 
+/// A take of [`at_frames`] with the largest count there is for a section, whose records it has not.
+fn oversized(take: &[u8], section: usize) -> Vec<u8> {
+    let mut file = take.to_vec();
+    let number = |at: usize| u32::from_le_bytes(take[at..at + 4].try_into().unwrap()) as usize;
+    let count_at = [111, 23, 61, 28].iter().take(section).fold(50, |at, size| at + 4 + size * number(at));
+    file[count_at..count_at + 4].fill(0xFF);
+    file
+}
+
 #[test]
 fn lists_a_take_in_one_line() {
     let folder = Folder::new("list");
@@ -48,6 +57,14 @@ fn lists_a_take_in_one_line() {
         (bones(2000, 1), "2000 0 0 0 0 0 0 0 1999 222074", 0),
         (at_frames([vec![], vec![u32::MAX], vec![], vec![], vec![], vec![]]), "0 1 0 0 0 0 0 4294967295 4294967295 97", 0),
         (vmd::join(&property(), &sections).unwrap(), "1 3 4 5 6 8 2 20 300 806", 0),
+        // read in the lenient manner: bytes over, and sections that are emptied
+        ([counts(&[0; 6]), vec![1]].concat(), "0 0 0 0 0 0 0 0 0 74", 0),
+        ([property(), vec![0; 9]].concat(), "0 0 0 0 0 1 2 300 300 125", 0),
+        (oversized(&sections, 2), "1 3 0 0 0 0 0 20 22 254", 0),
+        (oversized(&sections, 3), "1 3 4 0 0 0 0 20 23 498", 0),
+        (oversized(&sections, 4), "1 3 4 5 0 0 0 20 24 638", 0),
+        (as_older(&counts(&[0, 0, 1])), "0 0 0 0 0 0 0 0 0 74", 0),
+        (as_older(&oversized(&sections, 3)), "1 3 4 0 0 0 0 20 23 498", 0),
         (older_start()[..29].to_vec(), "refused 1", 1),
         (older_start()[..30].to_vec(), "refused 1", 1),
         (older_start()[..39].to_vec(), "refused 1", 1),
@@ -440,6 +457,175 @@ fn a_season_on_a_terminal() {
     assert!(fs::read_to_string(folder.join("out")).unwrap().starts_with("accepted takes: 9\n"));
 }
 
+// ---- damaged takes
+
+const OVER: &str = "refused 16: there are bytes after the last property frame, or after a property count of 0; --lenient \
+                    reads such a file, and what is saved then has lost these bytes";
+const OVERSIZED: &str = "refused 17: a camera, light or self-shadow count is too large for the bytes after it; --lenient \
+                         reads such a file, and what is saved then has lost that section's records and every section after \
+                         it, IK frames among them";
+
+/// Damaged takes, the message for each, and what is left of it in the lenient manner.
+fn damaged() -> Vec<(Vec<u8>, &'static str, Vec<u8>)> {
+    let take = at_frames([vec![3, 1, 3], vec![5], vec![9, 7], vec![2], vec![4, 4], vec![8]]);
+    let cut = |[cameras, lights, self_shadows]: [&[u8]; 3]| {
+        let frames = |frames: &[u8]| frames.iter().map(|frame| u32::from(*frame)).collect();
+        at_frames([vec![3, 1, 3], vec![5], frames(cameras), frames(lights), frames(self_shadows), vec![]])
+    };
+    vec![
+        (counts(&[0, 0, 1]), OVERSIZED, counts(&[0; 6])),
+        (oversized(&take, 2), OVERSIZED, cut([&[], &[], &[]])),
+        (oversized(&take, 3), OVERSIZED, cut([&[9, 7], &[], &[]])),
+        (oversized(&take, 4), OVERSIZED, cut([&[9, 7], &[2], &[]])),
+        ([counts(&[0; 6]), vec![0; 4]].concat(), OVER, counts(&[0; 6])),
+        ([&take[..], &[0xC5; 9]].concat(), OVER, take),
+    ]
+}
+
+/// Every command that saves, with the files `damaged` and `good`.
+const SAVING: [&[&str]; 5] = [
+    &["export", "damaged"],
+    &["export", "--older", "damaged"],
+    &["join", "damaged", "good"],
+    &["join", "good", "damaged"],
+    &["tidy", "damaged"],
+];
+
+/// Each is named, with what is wrong, what reads it and what that loses; nothing is written.
+#[test]
+fn damaged_takes_are_refused() {
+    let folder = Folder::new("damaged");
+    folder.file("good", &bones(2, 1));
+    folder.file("out", b"old");
+    for (take, message, _) in damaged() {
+        for take in [as_older(&take), take] {
+            folder.file("damaged", &take);
+            for words in SAVING {
+                for to in ["out", "none", "damaged", "-"] {
+                    let done = vmd().current_dir(&folder.0).args(words).args(["-o", to]).output().unwrap();
+                    assert_eq!((status(&done), out(&done)), (1, String::new()), "{words:?}");
+                    assert_eq!(err(&done), format!("vmd: damaged: {message}\n"), "{words:?}");
+                }
+                assert_eq!(fs::read(folder.join("out")).unwrap(), b"old");
+                assert_eq!(fs::read(folder.join("damaged")).unwrap(), take);
+            }
+            let piped = given(vmd().current_dir(&folder.0).args(["tidy", "-", "-o", "out"]), &take);
+            assert_eq!((status(&piped), err(&piped)), (1, format!("vmd: standard input: {message}\n")));
+        }
+    }
+    assert_eq!(folder.names(), ["damaged", "good", "out"]);
+}
+
+/// With --lenient, wherever it stands, what is saved is the same command's answer for what is left.
+#[test]
+fn damaged_takes_are_read_with_lenient() {
+    let folder = Folder::new("lenient");
+    folder.file("good", &bones(2, 1));
+    for (take, _, left) in damaged() {
+        for take in [as_older(&take), take] {
+            for words in SAVING {
+                folder.file("damaged", &left);
+                let expected = vmd().current_dir(&folder.0).args(words).args(["-o", "-"]).output().unwrap();
+                assert_eq!(status(&expected), 0, "{words:?}");
+                folder.file("damaged", &take);
+                let run = |before: &[&str], after: &[&str]| {
+                    vmd().current_dir(&folder.0).arg(words[0]).args(before).args(&words[1..]).args(after).output().unwrap()
+                };
+                for done in [
+                    run(&["--lenient"], &["-o", "-"]),
+                    run(&[], &["--lenient", "-o", "-"]),
+                    run(&[], &["-o", "-", "--lenient"]),
+                ] {
+                    assert_eq!((status(&done), err(&done)), (0, err(&expected)), "{words:?}");
+                    assert!(done.stdout == expected.stdout, "{words:?}");
+                }
+                // over the take itself, whose damage is gone then
+                let done = run(&["--lenient"], &["-o", "damaged"]);
+                assert_eq!((status(&done), out(&done), err(&done)), (0, String::new(), err(&expected)), "{words:?}");
+                assert!(fs::read(folder.join("damaged")).unwrap() == expected.stdout, "{words:?}");
+                assert_eq!(status(&run(&[], &["-o", "-"])), 0);
+            }
+        }
+    }
+    let (over, ..) = damaged().pop().unwrap();
+    let piped = given(vmd().args(["export", "--lenient", "-", "-o", "-"]), &over);
+    assert_eq!((status(&piped), piped.stdout), (0, over[..over.len() - 9].to_vec()));
+}
+
+/// What both manners refuse is told as it is without the option, and without a word of it.
+#[test]
+fn lenient_with_takes_that_both_manners_refuse() {
+    let folder = Folder::new("lenient-refused");
+    folder.file("good", &bones(2, 1));
+    folder.file("out", b"old");
+    let mut long = counts(&[0, 0, 1]);
+    long[30..41].fill(b'n');
+    let cases = [
+        (start(), "refused 1: the file ends early", &SAVING[..]),
+        (vec![0x41; 60], "refused 2: the file is not a VMD take", &SAVING),
+        (
+            long,
+            "refused 15: the model name takes more than 10 bytes, and the older edition has no room for it",
+            &SAVING[1..2],
+        ),
+    ];
+    for (take, sentence, commands) in cases {
+        folder.file("damaged", &take);
+        for words in commands {
+            let done = vmd().current_dir(&folder.0).args(*words).args(["--lenient", "-o", "out"]).output().unwrap();
+            assert_eq!((status(&done), out(&done)), (1, String::new()), "{words:?}");
+            assert_eq!(err(&done), format!("vmd: damaged: {sentence}\n"), "{words:?}");
+            assert_eq!(fs::read(folder.join("out")).unwrap(), b"old");
+        }
+    }
+}
+
+/// The first damaged take of a join is named, wherever it stands.
+#[test]
+fn joins_of_several_damaged_takes() {
+    let folder = Folder::new("damaged-joins");
+    let good = at_frames([vec![3], vec![], vec![6], vec![], vec![], vec![4]]);
+    folder.file("good", &good);
+    folder.file("over", &[&good[..], &[0]].concat());
+    folder.file("oversized", &oversized(&good, 2));
+    folder.file("early", &good[..60]);
+    let run = |words: &[&str]| vmd().current_dir(&folder.0).arg("join").args(words).args(["-o", "-"]).output().unwrap();
+    for (words, message) in [
+        (&["over", "oversized", "early"][..], format!("over: {OVER}")),
+        (&["oversized", "over", "early"], format!("oversized: {OVERSIZED}")),
+        (&["good", "good", "good", "over", "oversized"], format!("over: {OVER}")),
+        (&["early", "over", "oversized"], "early: refused 1: the file ends early".into()),
+        (&["--lenient", "over", "oversized", "early"], "early: refused 1: the file ends early".into()),
+    ] {
+        let done = run(words);
+        assert_eq!((status(&done), out(&done), err(&done)), (1, String::new(), format!("vmd: {message}\n")), "{words:?}");
+    }
+    let done = run(&["--lenient", "over", "oversized", "good"]);
+    assert_eq!((status(&done), err(&done)), (0, String::new()));
+    assert_eq!(done.stdout, at_frames([vec![3, 3, 3], vec![], vec![6, 6], vec![], vec![], vec![4, 4]]));
+}
+
+/// They read such takes always, and tell of nothing.
+#[test]
+fn damaged_takes_in_a_list_and_in_a_season() {
+    let folder = Folder::new("damaged-season");
+    let mut names = Vec::new();
+    for (i, (take, _, left)) in damaged().into_iter().enumerate() {
+        let name = format!("{i}");
+        let listed = |take: &[u8]| {
+            folder.file(&name, take);
+            vmd().current_dir(&folder.0).args(["list", &name]).output().unwrap()
+        };
+        let (expected, done) = (listed(&left), listed(&take));
+        assert_eq!((status(&done), out(&done), err(&done)), (0, out(&expected), String::new()));
+        names.push(name);
+    }
+    let done = vmd().current_dir(&folder.0).arg("season").args(&names).output().unwrap();
+    assert_eq!((status(&done), err(&done)), (0, String::new()));
+    let sections = [[12, 0, 3], [4, 0, 1], [6, 0, 2], [2, 0, 1], [2, 0, 2], [1, 0, 1]];
+    assert_eq!(out(&done), figures([6, 0], sections, [4, 4, 27, 4, 3]));
+}
+
 /// OUT may be one of the takes that are read.
 #[test]
 fn saves_over_what_it_read() {
@@ -504,6 +690,10 @@ fn usage() {
         &["export", "a", "-o", "--older"],
         &["export", "-o", "b", "--older", "a"],
         &["--older", "a", "-o", "b"],
+        &["--lenient", "a", "-o", "b"],
+        &["export", "--lenient", "a"],
+        &["export", "a", "-o", "--lenient"],
+        &["export", "-o", "b", "--lenient", "a"],
         &["join", "a", "-o", "b"],
         &["join", "a", "b"],
         &["join", "a", "b", "--", "-o", "c"],
@@ -535,6 +725,10 @@ fn usage() {
         (&["join", "--older", "a", "b", "-o", "c"], "join: there is no option '--older'"),
         (&["season", "a", "--older"], "season: there is no option '--older'"),
         (&["tidy", "--older", "a", "-o", "b"], "tidy: there is no option '--older'"),
+        (&["list", "--lenient", "a"], "list: there is no option '--lenient'"),
+        (&["season", "a", "--lenient"], "season: there is no option '--lenient'"),
+        (&["tidy", "--strict", "a", "-o", "b"], "tidy: there is no option '--strict'"),
+        (&["join", "--lenient", "a", "b", "--lenient", "-o", "c"], "join: --lenient is given twice"),
         (&["export", "a", "-o"], "export: no file is named by -o OUT"),
         (&["export", "a", "-o", "-x"], "export: no file is named by -o OUT: '-x' reads as an option, './-x' names a file"),
         (&["tidy", "a"], "tidy: no output is named: -o OUT names it"),
@@ -557,6 +751,9 @@ fn usage() {
         "how many records were kept",
         "the first model name that is not empty",
         "vmd season FILE..",
+        "--lenient                       an option of 'export', 'join' and 'tidy'",
+        "section's records and every section after it, IK frames among them",
+        "'list' and 'season' save nothing and always read so",
         "Exit status",
         "3 where OUT is the new file",
     ] {
@@ -592,6 +789,7 @@ fn help_after_a_command() {
         &["list", "-h"],
         &["export", "a", "--help"],
         &["export", "--older", "--help"],
+        &["tidy", "--lenient", "--help"],
         &["join", "--help", "-o", "a"],
         &["tidy", "--help"],
         &["tidy", "a", "-o", "b", "-h"],
@@ -610,6 +808,7 @@ fn files_that_look_like_options() {
     folder.file("-o", &one);
     folder.file("--help", &two);
     folder.file("--older", &one);
+    folder.file("--lenient", &counts(&[0, 0, 1]));
     let run = |words: &[&str]| given(vmd().current_dir(&folder.0).args(words), &two);
     let listed = run(&["list", "--", "-o", "--help", "-"]);
     let lines = "-o: 1 0 0 0 0 0 0 0 0 185\n--help: 2 0 0 0 0 0 0 0 1 296\nstandard input: 2 0 0 0 0 0 0 0 1 296\n";
@@ -620,6 +819,8 @@ fn files_that_look_like_options() {
     let done = run(&["export", "-o", "out", "--", "--older"]);
     assert_eq!((status(&done), err(&done)), (0, String::new()));
     assert_eq!(fs::read(folder.join("out")).unwrap(), one);
+    let done = run(&["export", "-o", "out", "--", "--lenient"]);
+    assert_eq!((status(&done), err(&done)), (1, format!("vmd: --lenient: {OVERSIZED}\n")));
     let done = run(&["export", "./-o", "-o", "./--help"]);
     assert_eq!((status(&done), err(&done)), (0, String::new()));
     assert_eq!(fs::read(folder.join("--help")).unwrap(), one);

@@ -6,9 +6,10 @@ use std::collections::BTreeSet;
 use std::ops::Range;
 use std::thread;
 
-use common::{Random, as_older, at_frames, bones, counts, examples, older_start, start, widened};
+use common::{BOTH, Random, as_older, at_frames, bones, counts, examples, older_start, refused_by_all, start, widened};
 use vmd::{
-    Error, Figures, IkState, Mean, NameTable, OwnedParts, Parts, PartsMut, PropertyFrame, Refusal, Season, TableSizes, Take,
+    Error, Figures, IkState, Manner, Mean, NameTable, OwnedParts, Parts, PartsMut, PropertyFrame, Refusal, Season,
+    TableSizes, Take,
 };
 
 /// Records as a file has them, with a value of its own in every field.
@@ -260,7 +261,7 @@ fn properties(n: u32) -> Vec<Property> {
 }
 
 /// Their file, after a bone. What is true is written as any byte but zero, other bytes follow a name's zero, and the last
-/// frame is followed by zeros, which a larger count would have read as frames.
+/// frame is followed by zeros, which a larger count would have read as frames: it is read in the lenient manner.
 fn with_properties(properties: &[Property]) -> Vec<u8> {
     let mut file = bones(1, 1);
     file.truncate(file.len() - 4);
@@ -285,7 +286,7 @@ fn property_frames_and_their_ik_states() {
         let properties = properties(n as u32);
         let newer = with_properties(&properties);
         for file in [as_older(&newer), newer] {
-            let take = Take::open(file).unwrap();
+            let take = Manner::Lenient.open(file).unwrap();
             let states = properties.iter().map(|(_, states)| states.len() as u64).sum();
             assert_eq!((take.properties(), take.ik_states()), (n, states));
             for (i, (frame, states)) in properties.iter().enumerate() {
@@ -324,7 +325,7 @@ fn steps_over_property_frames() {
     for n in [0, 1, 2, 15, 16, 17, 31, 32, 33, 48, 49, 70] {
         let properties = properties(n);
         let file = with_properties(&properties);
-        let take = Take::open(&file).unwrap();
+        let take = Manner::Lenient.open(&file).unwrap();
         for seed in 1..200u32 {
             let mut random = Random::new(seed);
             let longest_jump = [1, 3, 17, 50][seed as usize % 4];
@@ -350,7 +351,7 @@ fn steps_over_property_frames() {
 fn jumps_over_property_frames() {
     let properties = properties(70);
     let file = with_properties(&properties);
-    let take = Take::open(&file).unwrap();
+    let take = Manner::Lenient.open(&file).unwrap();
     let frames = || properties.iter().map(|(frame, _)| *frame);
     for k in (0..=72).chain([usize::MAX - 1, usize::MAX]) {
         assert_eq!(take.property_frames().nth(k), frames().nth(k));
@@ -571,7 +572,10 @@ fn pairs_without_a_character_in_a_file() {
 
 /// The smallest frame, and the largest.
 fn smallest_and_largest(file: &[u8]) -> (u32, u32) {
-    let take = Take::open(file).unwrap();
+    frames_of(&Take::open(file).unwrap())
+}
+
+fn frames_of(take: &Take) -> (u32, u32) {
     (take.smallest_frame(), take.largest_frame())
 }
 
@@ -626,13 +630,14 @@ fn frames_of_six_sections() {
     }
 }
 
-/// The records of a section that was emptied do not count, nor does what follows them: the file ends one byte before the end
-/// of its self-shadow, its light and its camera.
+/// The records of a section that the lenient manner empties do not count, nor does what follows them: the file ends one byte
+/// before the end of its self-shadow, its light and its camera.
 #[test]
 fn frames_of_emptied_sections() {
     let file = at_frames([60, 50, 40, 30, 20, 10].map(|frame| vec![frame]));
     for (len, smallest) in [(file.len(), 10), (301, 30), (288, 40), (256, 50)] {
-        assert_eq!(smallest_and_largest(&file[..len]), (smallest, 60), "{len} bytes");
+        let take = Manner::Lenient.open(&file[..len]).unwrap();
+        assert_eq!(frames_of(&take), (smallest, 60), "{len} bytes");
     }
 }
 
@@ -664,8 +669,8 @@ fn frames_of_a_join() {
 
 // ---- the older edition
 
-/// Files of the older edition with these bytes in the model name's field. Among them are records that saving changes,
-/// sections that are missing or emptied, and bytes after the last one.
+/// Files of the older edition with these bytes in the model name's field. Among them are records that saving changes and
+/// sections that are missing; and, which the lenient manner alone reads, an oversized count and bytes after the last section.
 fn older_files(model_name: &[u8; 10]) -> Vec<Vec<u8>> {
     let mut newer = vec![six_sections(), bones(7, 1), property_take(3), morphs(&[b"smile", b"", b"smile\0?"])];
     newer.extend([counts(&[0]), counts(&[0; 6]), counts(&[0, 0, 1]), bones(2, 1)[..276].to_vec()]);
@@ -719,9 +724,8 @@ fn an_older_file_is_read() {
 fn an_older_file_reads_as_it_does_widened() {
     for older in all_older_files() {
         let wide = widened(&older);
-        let (take, expected) = (Take::open(&older).unwrap(), Take::open(&wide).unwrap());
-        let numbers = |take: &Take| (take.ik_states(), take.smallest_frame(), take.largest_frame());
-        assert_eq!(numbers(&take), numbers(&expected));
+        let (take, expected) = (Manner::Lenient.open(&older).unwrap(), Manner::Lenient.open(&wide).unwrap());
+        assert_eq!((take.ik_states(), frames_of(&take)), (expected.ik_states(), frames_of(&expected)));
         assert!(take.bone_frames().eq(expected.bone_frames()));
         assert!(take.morph_frames().eq(expected.morph_frames()));
         assert!(take.camera_frames().eq(expected.camera_frames()));
@@ -734,37 +738,23 @@ fn an_older_file_reads_as_it_does_widened() {
         assert!(take.model_name().is_empty() || place(&take, take.model_name()) == 30);
         let parts = take.parts().unwrap();
         assert_eq!(parts, expected.parts().unwrap());
-        in_exact_tables(&older, &parts);
+        in_exact_tables(Manner::Lenient, &older, &parts);
         assert_eq!(season_of([&older[..]]), season_of([&wide[..]]));
-        assert_eq!(vmd::export(&older).unwrap(), vmd::export(&wide).unwrap());
-        assert_eq!(vmd::export_size(&older), vmd::export_size(&wide));
-        assert_eq!(vmd::tidy(&older).unwrap(), vmd::tidy(&wide).unwrap());
+        for manner in BOTH {
+            assert_eq!(manner.export(&older), manner.export(&wide));
+            assert_eq!(manner.export_size(&older), manner.export_size(&wide));
+            assert_eq!(manner.tidy(&older), manner.tidy(&wide));
+        }
+        assert!(Manner::Lenient.export(&older).is_ok() && Manner::Lenient.tidy(&older).is_ok());
     }
 }
 
-/// What every call that reads a take answers for one that is refused.
-fn refused_by_all(file: &[u8]) -> u32 {
-    let good = counts(&[0; 6]);
-    let refusals = [
-        Take::open(file).map(|_| ()).unwrap_err(),
-        vmd::export(file).unwrap_err(),
-        vmd::export_older(file).unwrap_err(),
-        vmd::join(file, &good).unwrap_err(),
-        vmd::join(&good, file).unwrap_err(),
-        vmd::export_size(file).unwrap_err().into(),
-        vmd::export_older_size(file).unwrap_err().into(),
-        vmd::join_size(&good, file).unwrap_err().into(),
-        vmd::split_sizes(file).unwrap_err().into(),
-        vmd::tidy(file).unwrap_err(),
-        vmd::tidy_size(file, &mut []).unwrap_err().into(),
-        vmd::tidy_into(file, &mut [], &mut []).unwrap_err().into(),
-    ];
-    assert!(refusals.iter().all(|refusal| *refusal == refusals[0]), "{refusals:?}");
+/// What every call that reads a whole take answers, in both manners, for a file that is refused in both.
+fn refused_in_both(file: &[u8]) -> u32 {
+    let [strict, lenient] = BOTH.map(|manner| refused_by_all(manner, file));
+    assert_eq!(strict, lenient);
     assert!(!Season::new().add(file));
-    match refusals[0] {
-        Error::Refused(refusal) => refusal.number(),
-        error => panic!("{error}"),
-    }
+    strict
 }
 
 /// 30 bytes for the magic, 10 for the model name, and a bone count. Cut anywhere it is answered as the widened file is.
@@ -772,13 +762,15 @@ fn refused_by_all(file: &[u8]) -> u32 {
 fn older_files_that_end_early() {
     let none = [older_start(), vec![0; 4]].concat();
     for len in [0, 25, 26, 29, 30, 39, 40, 43] {
-        assert_eq!(refused_by_all(&none[..len]), 1, "{len} bytes");
+        assert_eq!(refused_in_both(&none[..len]), 1, "{len} bytes");
     }
     assert_eq!(vmd::export(&none).unwrap(), counts(&[0; 6]));
     for older in older_files(b"ten bytes!") {
         let wide = widened(&older);
         for len in 40..=older.len() {
-            assert_eq!(vmd::export(&older[..len]), vmd::export(&wide[..len + 10]), "{len} bytes");
+            for manner in BOTH {
+                assert_eq!(manner.export(&older[..len]), manner.export(&wide[..len + 10]), "{len} bytes, {manner:?}");
+            }
         }
     }
     // a header is there or is not, whatever follows
@@ -799,8 +791,8 @@ fn magics() {
                 let mut changed = file.clone();
                 changed[at] = byte;
                 if at < 26 {
-                    assert_eq!([30, 40, changed.len()].map(|len| refused_by_all(&changed[..len])), [2; 3], "byte {at}");
-                    assert_eq!(refused_by_all(&changed[..29]), 1);
+                    assert_eq!([30, 40, changed.len()].map(|len| refused_in_both(&changed[..len])), [2; 3], "byte {at}");
+                    assert_eq!(refused_in_both(&changed[..29]), 1);
                 } else {
                     assert_eq!(vmd::export(&changed), vmd::export(file), "byte {at}");
                 }
@@ -819,12 +811,13 @@ fn takes_of_both_editions_are_joined() {
             for ([first, second], [wide_first, wide_second]) in
                 [([older, newer], [&wide, newer]), ([newer, older], [newer, &wide]), ([older, older], [&wide, &wide])]
             {
-                let expected = vmd::join(wide_first, wide_second).unwrap();
-                assert_eq!(vmd::join(first, second).unwrap(), expected);
-                assert_eq!(vmd::join_size(first, second), Ok(expected.len() as u64));
+                assert_eq!(vmd::join(first, second), vmd::join(wide_first, wide_second));
                 assert_eq!(vmd::joined_model(first, second), vmd::joined_model(wide_first, wide_second));
+                let expected = Manner::Lenient.join(wide_first, wide_second).unwrap();
+                assert_eq!(Manner::Lenient.join(first, second).unwrap(), expected);
+                assert_eq!(Manner::Lenient.join_size(first, second), Ok(expected.len() as u64));
                 let mut out = vec![0xA5; expected.len() + 3];
-                assert_eq!(vmd::join_into(first, second, &mut out), Ok(expected.len()));
+                assert_eq!(Manner::Lenient.join_into(first, second, &mut out), Ok(expected.len()));
                 assert_eq!((&out[..expected.len()], &out[expected.len()..]), (&expected[..], &[0xA5; 3][..]));
             }
         }
@@ -839,15 +832,16 @@ fn saved_in_the_older_edition() {
     files.extend([six_sections(), bones(7, 1), counts(&[0]), counts(&[0, 0, 1])]);
     files.extend(examples());
     for file in &files {
-        let export = vmd::export(file).unwrap();
-        let older = vmd::export_older(file).unwrap();
+        let export = Manner::Lenient.export(file).unwrap();
+        let older = Manner::Lenient.export_older(file).unwrap();
         assert_eq!(older[..30], *b"Vocaloid Motion Data file\0\0\0\0\0");
         assert_eq!((&older[30..40], &older[40..]), (&export[30..40], &export[50..]));
-        assert_eq!(vmd::export_older_size(file), Ok(export.len() as u64 - 10));
+        assert_eq!(Manner::Lenient.export_older_size(file), Ok(export.len() as u64 - 10));
         assert_eq!(widened(&older), export);
         assert_eq!(vmd::export(&older).unwrap(), export);
         assert_eq!(vmd::export_older(&older).unwrap(), older);
-        assert_eq!(Take::open(&older).unwrap().parts().unwrap(), Take::open(file).unwrap().parts().unwrap());
+        let parts = Manner::Lenient.open(file).unwrap().parts().unwrap();
+        assert_eq!(Take::open(&older).unwrap().parts().unwrap(), parts);
     }
 }
 
@@ -1057,7 +1051,7 @@ fn try_different_names(fields: &[Vec<u8>], times: usize, of_bones: bool) {
     assert!(table == &expected.bytes && ends == &expected.ends);
     assert!(indices == &(0..fields.len() as u32).collect::<Vec<_>>().repeat(times));
     assert_eq!(sizes_of(&parts), sizes);
-    in_exact_tables(&file, &parts);
+    in_exact_tables(Manner::Strict, &file, &parts);
     in_a_season(&file, &parts);
 }
 
@@ -1083,10 +1077,10 @@ fn names_that_all_differ() {
     try_different_names(&names, 1, true);
 }
 
-fn in_exact_tables(file: &[u8], parts: &OwnedParts) {
+fn in_exact_tables(manner: Manner, file: &[u8], parts: &OwnedParts) {
     let mut lent = unwritten(parts, 0);
-    assert_eq!(vmd::split_sizes(file), Ok(sizes_of(parts)));
-    assert_eq!(vmd::split_into(file, lent.as_parts_mut()), Ok(sizes_of(parts)));
+    assert_eq!(manner.split_sizes(file), Ok(sizes_of(parts)));
+    assert_eq!(manner.split_into(file, lent.as_parts_mut()), Ok(sizes_of(parts)));
     assert!(lent == *parts);
 }
 
@@ -1105,14 +1099,14 @@ fn names_in_a_thread_of_little_stack() {
         let thread = thread::Builder::new().stack_size((256 + 64) << 10);
         let calls = move || {
             let parts = Take::open(&file).unwrap().parts().unwrap();
-            in_exact_tables(&file, &parts);
+            in_exact_tables(Manner::Strict, &file, &parts);
             in_a_season(&file, &parts);
         };
         thread.spawn(calls).unwrap().join().unwrap();
     }
 }
 
-/// A section that is missing, or was emptied, has no parts; the sections before it have theirs.
+/// A section that is missing, or that the lenient manner empties, has no parts; the sections before it have theirs.
 #[test]
 fn parts_of_emptied_sections() {
     let mut file = bones(2, 1);
@@ -1121,10 +1115,10 @@ fn parts_of_emptied_sections() {
     file.extend([0; 4]); // morphs
     file.extend(9u32.to_le_bytes()); // cameras that are not there
     file.extend([1; 60]);
-    let parts = Take::open(&file).unwrap().parts().unwrap();
+    let parts = Manner::Lenient.open(&file).unwrap().parts().unwrap();
     assert_eq!((parts.bone_frames.len(), parts.camera_frames.len(), parts.property_frames.len()), (2, 0, 0));
     assert_eq!(parts.bone_name_ends, [6]);
-    assert_eq!(Take::open(counts(&[0, 0, 1])).unwrap().parts().unwrap(), OwnedParts::default());
+    assert_eq!(Manner::Lenient.open(counts(&[0, 0, 1])).unwrap().parts().unwrap(), OwnedParts::default());
 }
 
 /// What lent memory holds before a call.

@@ -5,7 +5,7 @@ use std::collections::{BTreeMap, HashMap, HashSet};
 use std::thread;
 
 use common::{Random, as_older, bones, counts, examples, start};
-use vmd::{Error, Refusal, Take, Tidied, TidiedSection, TidiedSections};
+use vmd::{Error, Manner, Refusal, Take, Tidied, TidiedSection, TidiedSections};
 
 // ---- takes as lists of records
 
@@ -177,16 +177,16 @@ fn expect_join_law(first: &[u8], second: &[u8]) {
 
 /// With a scratch of as many places as are needed and with more, in an output that is just long enough and in a longer one:
 /// the places hold zeros, and all after them and after the file is as it was.
-fn expect_lent(file: &[u8], places: usize, tidied: &Tidied) {
+fn expect_lent(manner: Manner, file: &[u8], places: usize, tidied: &Tidied) {
     let len = tidied.file.len();
     for more in [0, 3] {
         let after = [vec![0; places], vec![7; more]].concat();
         let mut scratch = vec![7; places + more];
-        assert_eq!(vmd::tidy_size(file, &mut scratch), Ok((len as u64, tidied.sections)));
+        assert_eq!(manner.tidy_size(file, &mut scratch), Ok((len as u64, tidied.sections)));
         assert!(scratch == after, "the scratch of the size call");
         let mut scratch = vec![7; places + more];
         let mut out = vec![0xA5; len + more];
-        assert_eq!(vmd::tidy_into(file, &mut scratch, &mut out), Ok((len, tidied.sections)));
+        assert_eq!(manner.tidy_into(file, &mut scratch, &mut out), Ok((len, tidied.sections)));
         assert!(scratch == after, "the scratch");
         assert!(out[..len] == tidied.file && out[len..] == [0xA5; 3][..more], "the output");
     }
@@ -228,7 +228,7 @@ fn expect_as_defined(take: &Records) -> Tidied {
     assert_eq!(tidied.sections, expected.sections);
     assert!(tidied.file == expected.file, "the bytes are others");
     expect_tidy(&file, &tidied);
-    expect_lent(&file, take.largest_section(), &tidied);
+    expect_lent(Manner::Strict, &file, take.largest_section(), &tidied);
     expect_refusals(&file, take.largest_section(), &tidied);
     tidied
 }
@@ -471,7 +471,7 @@ fn a_take_of_the_older_edition() {
     let expected = expect_as_defined(&take);
     let older = as_older(&take.file());
     assert_eq!(vmd::tidy(&older).unwrap(), expected);
-    expect_lent(&older, 3, &expected);
+    expect_lent(Manner::Strict, &older, 3, &expected);
     expect_refusals(&older, 3, &expected);
     assert!(expected.file.starts_with(b"Vocaloid Motion Data 0002\0\0\0\0\0ten bytes!\0"));
     assert_eq!(vmd::export_older_size(&older), Ok(expected.file.len() as u64 + 23 - 10));
@@ -492,22 +492,22 @@ fn the_examples_and_their_joins() {
     }
 }
 
-/// A section that is missing, or was emptied, has no records; those before it are tidied.
+/// A section that is missing, or that the lenient manner empties, has no records; those before it are tidied.
 #[test]
 fn sections_that_were_emptied() {
     let none = vmd::tidy(&counts(&[0])).unwrap();
     assert_eq!(none, Tidied { file: counts(&[0; 6]), sections: TidiedSections::default() });
-    expect_lent(&counts(&[0]), 0, &none);
+    expect_lent(Manner::Strict, &counts(&[0]), 0, &none);
     expect_refusals(&counts(&[0]), 0, &none);
     let mut file = [counts(&[2]), Record::bone(b"arm", 9, 1).in_file(), Record::bone(b"arm", 9, 2).in_file()].concat();
     file.extend([0; 4]); // morphs
     file.extend(9u32.to_le_bytes()); // cameras that are not there
     file.extend([1; 60]);
-    let tidied = vmd::tidy(&file).unwrap();
+    let tidied = Manner::Lenient.tidy(&file).unwrap();
     let bones = TidiedSection { kept: 1, dropped: 1 };
     assert_eq!(tidied.sections, TidiedSections { bones, ..Default::default() });
     assert!(tidied.file == [counts(&[1]), Record::bone(b"arm", 9, 2).in_file(), vec![0; 20]].concat());
-    expect_lent(&file, 2, &tidied);
+    expect_lent(Manner::Lenient, &file, 2, &tidied);
 }
 
 #[test]
@@ -585,7 +585,7 @@ fn tidied_in_a_thread_of_little_stack() {
     for (file, places) in takes.map(|take| (take.file(), take.largest_section())) {
         let calls = move || {
             let tidied = vmd::tidy(&file).unwrap();
-            expect_lent(&file, places, &tidied);
+            expect_lent(Manner::Strict, &file, places, &tidied);
             expect_refusals(&file, places, &tidied);
         };
         thread::Builder::new().stack_size((512 + 64) << 10).spawn(calls).unwrap().join().unwrap();

@@ -5,6 +5,8 @@
  * 11, which needs 4,294,967,296 records of a kind; the smallest such section has 36 GiB.
  */
 #include "check.h"
+#include "manner.h"
+#include "open.h"
 #include "parts.h"
 #include "readback.h"
 #include "vmd.h"
@@ -172,6 +174,7 @@ static void try_built(const struct parts *parts, const struct bytes *expected)
     build_into(parts, expected, expected->len + 100);
     build_refused(parts, VMD_OUTPUT_TOO_SHORT, expected->len - 1);
     build_refused(parts, VMD_OUTPUT_TOO_SHORT, 0);
+    expect_opens_alike(expected->at, expected->len);
 }
 
 /* ---- a good set of parts, and the take that it means */
@@ -293,16 +296,19 @@ static void built_and_read_back(void)
     struct take t = good_take();
     struct parts p = parts_of(&t);
     struct bytes expected, exported;
-    uint64_t len = 0;
+    enum manner m;
     encode(&expected, &t, CANONICAL);
     trial("a good set of parts");
     expect_number("the test's own size", expected.len, canonical_size(&t));
     try_built(&p, &expected);
     build_into(&p, &expected, expected.len);
     field_by_field(&t, lent_out.at, lent_out.len);
-    expect_number("export", vmd_export_animation(lent_out.at, lent_out.len, exported.at, sizeof exported.at, &len), VMD_OK);
-    expect_number("export's length", len, expected.len);
-    expect_bytes("export", exported.at, expected.at, expected.len);
+    for (m = STRICT; m < MANNERS; m++) {
+        uint64_t len = 0;
+        expect_number("export", export_in(m, lent_out.at, lent_out.len, exported.at, sizeof exported.at, &len), VMD_OK);
+        expect_number("export's length", len, expected.len);
+        expect_bytes("export", exported.at, expected.at, expected.len);
+    }
 }
 
 /* Values at the edge of what is turned down. */
@@ -411,6 +417,7 @@ static void built_from_many(void)
     trial("a good set of parts, %d times over", TIMES);
     out = lend_unwritten(&lent_out, expected.len);
     expect_built(build_with(s, out, expected.len, 0, lend_unwritten(&lent_slot, 8)), &expected);
+    expect_opens_alike(lent_out.at, lent_out.len);
     out = lend_unwritten(&lent_out, expected.len - 1);
     expect_number("build", build_with(s, out, expected.len - 1, 0, lend_unwritten(&lent_slot, 8)), VMD_OUTPUT_TOO_SHORT);
     expect_lent_unwritten("output", &lent_out);

@@ -19,6 +19,7 @@ enum { UNWRITTEN = 0xA5, FENCE_ROOM = 1 << 23 };
 /* ---- what is being tried, and what came of it */
 
 static char trying[256];
+static const char *tried_in = ""; /* the manner of the last call, where it has one */
 static unsigned long checks, failures;
 
 static inline void trial(const char *name, ...)
@@ -27,6 +28,7 @@ static inline void trial(const char *name, ...)
     va_start(values, name);
     vsnprintf(trying, sizeof trying, name, values);
     va_end(values);
+    tried_in = "";
 }
 
 static inline void expect(int as_expected, const char *what, ...)
@@ -38,7 +40,7 @@ static inline void expect(int as_expected, const char *what, ...)
     failures++;
     if (failures > 20)
         return;
-    fprintf(stderr, "%s: ", trying);
+    fprintf(stderr, "%s%s: ", trying, tried_in);
     va_start(values, what);
     vfprintf(stderr, what, values);
     va_end(values);

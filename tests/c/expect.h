@@ -1,10 +1,11 @@
 /*
- * What opening a file and fetching from it have to give, read off the format's description. It shares no code with the
- * library.
+ * What opening a file in each manner and fetching from it have to give, read off the format's description. It shares no code
+ * with the library.
  */
 #ifndef EXPECT_H
 #define EXPECT_H
 
+#include "manner.h"
 #include "take.h"
 #include "vmd.h"
 
@@ -81,8 +82,11 @@ static inline uint64_t property_end(const uint8_t *file, size_t len, uint64_t at
     return at;
 }
 
-/* The refusal, or 0 and the opening. */
-static inline uint32_t expected_opening(const uint8_t *file, size_t len, struct opening *o)
+/*
+ * The refusal, or 0 and the opening. The manners part in two places: at a camera, light or self-shadow count that exceeds
+ * the bytes left, and at bytes that no section has, which only come after the properties.
+ */
+static inline uint32_t expected_opening(enum manner manner, const uint8_t *file, size_t len, struct opening *o)
 {
     enum edition edition;
     uint32_t number = expected_header(file, len, &edition);
@@ -103,6 +107,8 @@ static inline uint32_t expected_opening(const uint8_t *file, size_t len, struct 
         if (count > (len - at) / record_sizes[s]) {
             if (s < 2 || s == 5)
                 return 1;
+            if (manner == STRICT)
+                return 17;
             at = len;
             continue;
         }
@@ -127,9 +133,28 @@ static inline uint32_t expected_opening(const uint8_t *file, size_t len, struct 
             at = end;
         }
     }
+    if (manner == STRICT && at < len)
+        return 16;
     o->n_frames = o->counts[5];
     expected_frames(file, o);
     return 0;
+}
+
+/* In both manners. The opening is the lenient one's: where the strict manner accepts the file, its own is the same. */
+static inline struct reading expected_reading(const uint8_t *file, size_t len, struct opening *o)
+{
+    uint32_t strict = expected_opening(STRICT, file, len, o);
+    return reading(strict, expected_opening(LENIENT, file, len, o));
+}
+
+/* What a file has left of a take whose own it was before it was damaged: the first records of each section. */
+static inline struct take left_of(const struct take *t, const struct opening *o)
+{
+    struct take left = *t;
+    size_t s;
+    for (s = 0; s < SECTIONS; s++)
+        left.counts[s] = o->counts[s];
+    return left;
 }
 
 /* What a fetch is given: any file, with any opening and scratch. */

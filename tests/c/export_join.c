@@ -1,142 +1,16 @@
 /*
- * Saving, in both editions, and joining, through the C interface: every byte of every output, against an encoder of the
- * test's own.
+ * Saving, in both editions, and joining, through the C interface, in both manners: every byte of every output, against an
+ * encoder of the test's own.
  *
- * Not tried: refusal 11 of joining, which needs two files with more than 4,294,967,295 records of a kind between them; the
- * smallest such pair has 36 GiB.
+ * Refusal 11 of joining needs two files with more than 4,294,967,295 records of a kind between them: manners.c has it.
  */
 #include "check.h"
+#include "damaged.h"
 #include "expect.h"
 #include "open.h"
 #include "readback.h"
+#include "save.h"
 #include "vmd.h"
-
-static struct fence lent_first, lent_second, lent_out, lent_slot;
-
-/* A file to save or join: its bytes, and what they mean. */
-struct sample {
-    const char *name;
-    struct bytes file;
-    struct take means;
-};
-
-/* ---- one call, whose output is this long: the answer, the slot, every byte of the output, and the inputs */
-
-static void expect_output(const char *what, uint32_t got, uint32_t number, const struct bytes *expected, size_t out_len)
-{
-    uint64_t len = expected == NULL ? 0 : expected->len;
-    expect_number(what, got, number);
-    if (number != VMD_OK) {
-        expect_lent_unwritten(what, &lent_out);
-        expect_lent_unwritten(what, &lent_slot);
-        return;
-    }
-    expect_lent(what, &lent_slot, &len, sizeof len);
-    expect_unwritten(what, lent_out.at - 64, 64);
-    if (out_len > 0)
-        expect_bytes(what, lent_out.at, expected->at, expected->len);
-    if (out_len > expected->len)
-        expect_unwritten(what, lent_out.at + expected->len, out_len - expected->len);
-}
-
-static void export_into(const struct bytes *file, uint32_t number, const struct bytes *expected, size_t out_len)
-{
-    uint8_t *f = lend(&lent_first, file->at, file->len), *out = lend_unwritten(&lent_out, out_len);
-    uint64_t *written = lend_unwritten(&lent_slot, sizeof *written);
-    expect_output("export_animation", vmd_export_animation(f, file->len, out, out_len, written), number, expected, out_len);
-    expect_lent("file", &lent_first, file->at, file->len);
-}
-
-static void older_into(const struct bytes *file, uint32_t number, const struct bytes *expected, size_t out_len)
-{
-    uint8_t *f = lend(&lent_first, file->at, file->len), *out = lend_unwritten(&lent_out, out_len);
-    uint64_t *written = lend_unwritten(&lent_slot, sizeof *written);
-    expect_output("export_older_animation", vmd_export_older_animation(f, file->len, out, out_len, written), number,
-                  expected, out_len);
-    expect_lent("file", &lent_first, file->at, file->len);
-}
-
-static void join_into(const struct bytes *first, const struct bytes *second, uint32_t number, const struct bytes *expected,
-                      size_t out_len)
-{
-    uint8_t *f = lend(&lent_first, first->at, first->len), *s = lend(&lent_second, second->at, second->len);
-    uint8_t *out = lend_unwritten(&lent_out, out_len);
-    uint64_t *written = lend_unwritten(&lent_slot, sizeof *written);
-    expect_output("join_animations", vmd_join_animations(f, first->len, s, second->len, out, out_len, written), number,
-                  expected, out_len);
-    expect_lent("first file", &lent_first, first->at, first->len);
-    expect_lent("second file", &lent_second, second->at, second->len);
-}
-
-static void expect_size(const char *what, uint32_t got, uint32_t number, uint64_t size)
-{
-    expect_number(what, got, number);
-    if (number == VMD_OK)
-        expect_lent(what, &lent_slot, &size, sizeof size);
-    else
-        expect_lent_unwritten(what, &lent_slot);
-}
-
-static void size_of_export(const struct bytes *file, uint32_t number, uint64_t size)
-{
-    uint8_t *f = lend(&lent_first, file->at, file->len);
-    expect_size("export_size", vmd_export_size(f, file->len, lend_unwritten(&lent_slot, 8)), number, size);
-    expect_lent("file", &lent_first, file->at, file->len);
-}
-
-static void size_of_older(const struct bytes *file, uint32_t number, uint64_t size)
-{
-    uint8_t *f = lend(&lent_first, file->at, file->len);
-    expect_size("export_older_size", vmd_export_older_size(f, file->len, lend_unwritten(&lent_slot, 8)), number, size);
-    expect_lent("file", &lent_first, file->at, file->len);
-}
-
-static void size_of_join(const struct bytes *first, const struct bytes *second, uint32_t number, uint64_t size)
-{
-    uint8_t *f = lend(&lent_first, first->at, first->len), *s = lend(&lent_second, second->at, second->len);
-    expect_size("join_size", vmd_join_size(f, first->len, s, second->len, lend_unwritten(&lent_slot, 8)), number, size);
-    expect_lent("first file", &lent_first, first->at, first->len);
-    expect_lent("second file", &lent_second, second->at, second->len);
-}
-
-/* A file that is to be these bytes: into an output of just this length, longer, shorter, and of no length. */
-static void try_export(const struct bytes *file, const struct bytes *expected)
-{
-    size_of_export(file, VMD_OK, expected->len);
-    export_into(file, VMD_OK, expected, expected->len);
-    export_into(file, VMD_OK, expected, expected->len + 100);
-    export_into(file, VMD_OUTPUT_TOO_SHORT, NULL, expected->len - 1);
-    export_into(file, VMD_OUTPUT_TOO_SHORT, NULL, 0);
-}
-
-static void try_older(const struct bytes *file, const struct bytes *expected)
-{
-    size_of_older(file, VMD_OK, expected->len);
-    older_into(file, VMD_OK, expected, expected->len);
-    older_into(file, VMD_OK, expected, expected->len + NARROWER);
-    older_into(file, VMD_OK, expected, expected->len + 100);
-    older_into(file, VMD_OUTPUT_TOO_SHORT, NULL, expected->len - 1);
-    older_into(file, VMD_OUTPUT_TOO_SHORT, NULL, 0);
-}
-
-/* One that is refused, whatever the output's length; where it is not, the older file would have this many bytes. */
-static void try_older_refused(const struct bytes *file, uint32_t number, size_t len)
-{
-    size_of_older(file, number, 0);
-    older_into(file, number, NULL, 0);
-    older_into(file, number, NULL, len - 1);
-    older_into(file, number, NULL, len);
-    older_into(file, number, NULL, len + 100);
-}
-
-static void try_join(const struct bytes *first, const struct bytes *second, const struct bytes *expected)
-{
-    size_of_join(first, second, VMD_OK, expected->len);
-    join_into(first, second, VMD_OK, expected, expected->len);
-    join_into(first, second, VMD_OK, expected, expected->len + 100);
-    join_into(first, second, VMD_OUTPUT_TOO_SHORT, NULL, expected->len - 1);
-    join_into(first, second, VMD_OUTPUT_TOO_SHORT, NULL, 0);
-}
 
 /* ---- the samples */
 
@@ -145,41 +19,34 @@ enum { MOST_SAMPLES = 24 };
 static struct sample samples[MOST_SAMPLES];
 static size_t n_samples;
 
-static struct sample *add_in(enum edition edition, const char *name, const struct take *means, enum manner manner)
+static struct sample *add_in(enum edition edition, const char *name, const struct take *means, enum form form)
 {
     struct sample *s = &samples[n_samples++];
-    s->name = name;
-    s->means = *means;
-    encode_in(&s->file, edition, means, manner);
+    snprintf(s->name, sizeof s->name, "%s", name);
+    make_whole(s, edition, means, form);
     return s;
 }
 
-static struct sample *add(const char *name, const struct take *means, enum manner manner)
+static struct sample *add(const char *name, const struct take *means, enum form form)
 {
-    return add_in(NEWER, name, means, manner);
+    return add_in(NEWER, name, means, form);
 }
 
-/* Sections left out at the end, counts that no section can have, bytes over: what each means is told here by hand. */
-static void add_lenient_samples(void)
+/* Sections left out at the end, counts that no section can have, bytes over. */
+static void add_damaged_samples(void)
 {
     struct take t = distinct_take(6, 2, 0, 0, 0, 0, 0), whole = distinct_take(0, 1, 1, 2, 2, 2, 2);
     struct sample *s = add("two bones, and no counts after them", &t, RAW);
     s->file.len = 50 + 4 + 2 * 111;
 
     s = add("a camera count that is too large, and lights after it", &whole, RAW);
-    memcpy(s->file.at + 50 + 4 + 111 + 4 + 23, "\x03\0\0\x01", 4);
-    memset(s->means.counts + 2, 0, 4 * sizeof *s->means.counts);
-
+    oversize(s, VMD_CAMERAS, 0x01000003);
     s = add("a light count that is too large, and self-shadows after it", &whole, RAW);
-    memcpy(s->file.at + 50 + 4 + 111 + 4 + 23 + 4 + 2 * 61, "\xFF\xFF\xFF\xFF", 4);
-    memset(s->means.counts + 3, 0, 3 * sizeof *s->means.counts);
-
+    oversize(s, VMD_LIGHTS, 0xFFFFFFFF);
     s = add("a self-shadow count that is too large, and properties after it", &whole, RAW);
-    memcpy(s->file.at + 50 + 4 + 111 + 4 + 23 + 4 + 2 * 61 + 4 + 2 * 28, "\x80\0\0\0", 4);
-    memset(s->means.counts + 4, 0, 2 * sizeof *s->means.counts);
-
+    oversize(s, VMD_SELF_SHADOWS, 0x80);
     s = add("bytes after the last property frame", &whole, RAW);
-    put(&s->file, s->file.at, 50);
+    put_over(s, 50, OWN_BYTES);
 }
 
 static void add_older_samples(void)
@@ -195,10 +62,9 @@ static void add_older_samples(void)
     s = add_in(OLDER, "an older bone, and no counts after it", &t, RAW);
     s->file.len = 40 + 4 + 111;
     s = add_in(OLDER, "an older camera count that is too large, and no model name", &whole, RAW);
-    memcpy(s->file.at + 40 + 4 + 111 + 4 + 23, "\x03\0\0\x01", 4);
-    memset(s->means.counts + 2, 0, 4 * sizeof *s->means.counts);
+    oversize(s, VMD_CAMERAS, 0x01000003);
     s = add_in(OLDER, "bytes after the last property frame of an older take", &whole, RAW);
-    put(&s->file, s->file.at, 50);
+    put_over(s, 50, OWN_BYTES);
 }
 
 static void make_samples(void)
@@ -227,7 +93,7 @@ static void make_samples(void)
     add("morphs and cameras", &t, RAW);
     t = distinct_take(0, 0, 0, 0, 3, 3, 0);
     add("lights and self-shadows", &t, RAW);
-    add_lenient_samples();
+    add_damaged_samples();
     add_older_samples();
 }
 
@@ -242,47 +108,66 @@ static void exports(void)
         encode(&expected, &s->means, CANONICAL);
         trial("export of %s", s->name);
         expect_number("the test's own size", expected.len, canonical_size(&s->means));
-        try_export(&s->file, &expected);
+        try_export(&s->file, s->reads, &expected);
         trial("export of the export of %s", s->name);
-        try_export(&expected, &expected);
+        try_export(&expected, alike(VMD_OK), &expected);
     }
 }
 
+/* The file that a call writes into room enough, and its answer. */
+static uint32_t export(enum manner m, const struct bytes *file, struct bytes *out)
+{
+    uint64_t len = 0;
+    uint32_t number = export_in(m, file->at, file->len, out->at, sizeof out->at, &len);
+    out->len = len;
+    return number;
+}
+
+static uint32_t join(enum manner m, const struct bytes *first, const struct bytes *second, struct bytes *out)
+{
+    uint64_t len = 0;
+    uint32_t number = join_in(m, first->at, first->len, second->at, second->len, out->at, sizeof out->at, &len);
+    out->len = len;
+    return number;
+}
+
 /* What the library writes in the older edition: widened it is the export, it reads as the take, and converts to itself. */
-static void older_laws(const struct sample *s)
+static void older_laws(enum manner m, const struct sample *s)
 {
     struct bytes exported, older, widened;
     uint64_t len = 0;
-    expect_number("export", vmd_export_animation(s->file.at, s->file.len, exported.at, sizeof exported.at, &len), VMD_OK);
-    exported.len = len;
-    expect_number("older", vmd_export_older_animation(s->file.at, s->file.len, older.at, sizeof older.at, &len), VMD_OK);
+    expect_number("export", export(m, &s->file, &exported), VMD_OK);
+    expect_number("older", older_in(m, s->file.at, s->file.len, older.at, sizeof older.at, &len), VMD_OK);
     older.len = len;
     widen(&widened, &older);
     expect_number("widened length", widened.len, exported.len);
     expect_bytes("widened", widened.at, exported.at, exported.len);
     field_by_field(&s->means, older.at, older.len);
-    try_export(&older, &exported);
-    try_older(&older, &older);
+    try_export(&older, alike(VMD_OK), &exported);
+    try_older(&older, alike(VMD_OK), &older);
 }
 
 /* The older edition of each sample that it can hold; the others are 15. */
 static void older_exports(void)
 {
     size_t k;
+    enum manner m;
     for (k = 0; k < n_samples; k++) {
         const struct sample *s = &samples[k];
         size_t len = canonical_size(&s->means) - 10;
         struct bytes expected;
         trial("older edition of %s", s->name);
         if (s->means.model.len > 10) {
-            try_older_refused(&s->file, VMD_MODEL_NAME_TOO_LONG, len);
+            try_older_refused(&s->file, then(s->reads, alike(VMD_MODEL_NAME_TOO_LONG)), len);
             continue;
         }
         encode_in(&expected, OLDER, &s->means, CANONICAL);
         expect_number("the test's own size", expected.len, len);
-        try_older(&s->file, &expected);
+        try_older(&s->file, s->reads, &expected);
         trial("older edition of %s, read", s->name);
-        older_laws(s);
+        for (m = STRICT; m < MANNERS; m++)
+            if (s->reads.in[m] == VMD_OK)
+                older_laws(m, s);
     }
 }
 
@@ -296,11 +181,11 @@ static void odd_floats_anywhere(void)
         encode(&b, &t, RAW);
         encode(&expected, &t, CANONICAL);
         trial("odd floats from the %zuth on", n);
-        try_export(&b, &expected);
+        try_export(&b, alike(VMD_OK), &expected);
         encode_in(&expected, OLDER, &t, CANONICAL);
-        try_older(&b, &expected);
+        try_older(&b, alike(VMD_OK), &expected);
         encode(&expected, &both, CANONICAL);
-        try_join(&b, &b, &expected);
+        try_join(&b, &b, alike(VMD_OK), &expected);
     }
 }
 
@@ -315,54 +200,64 @@ static void joins(void)
             struct bytes expected;
             encode(&expected, &means, CANONICAL);
             trial("join of %s with %s", first->name, second->name);
-            try_join(&first->file, &second->file, &expected);
+            try_join(&first->file, &second->file, then(first->reads, second->reads), &expected);
         }
 }
 
 static void empty_takes_on_either_side(void)
 {
     size_t k, e;
+    enum manner m;
     for (k = 0; k < n_samples; k++)
-        for (e = 0; e < 2; e++) {
-            const struct bytes *file = &samples[k].file;
-            struct bytes export;
-            uint64_t len = 0;
-            trial("%s joined with %s", samples[k].name, samples[e].name);
-            expect_number("export", vmd_export_animation(file->at, file->len, export.at, sizeof export.at, &len), VMD_OK);
-            export.len = len;
-            join_into(file, &samples[e].file, VMD_OK, &export, export.len);
-            join_into(&samples[e].file, file, VMD_OK, &export, export.len);
-        }
+        for (e = 0; e < 2; e++)
+            for (m = STRICT; m < MANNERS; m++) {
+                const struct bytes *file = &samples[k].file;
+                uint32_t number = samples[k].reads.in[m];
+                struct bytes exported;
+                trial("%s joined with %s", samples[k].name, samples[e].name);
+                expect_number("export", export(m, file, &exported), number);
+                join_into(m, file, &samples[e].file, number, &exported, exported.len);
+                join_into(m, &samples[e].file, file, number, &exported, exported.len);
+            }
 }
 
-static void join(const struct bytes *first, const struct bytes *second, struct bytes *out)
+/* Three joined both ways: a half that was written is accepted, and the answer is the first of the three refusals. */
+static void join_three(enum manner m, const struct sample *first, const struct sample *second, const struct sample *third,
+                       const struct bytes *expected)
 {
-    uint64_t len = 0;
-    expect_number("join", vmd_join_animations(first->at, first->len, second->at, second->len, out->at, sizeof out->at, &len),
-                  VMD_OK);
-    out->len = len;
+    static struct bytes half, left, right;
+    uint32_t of_first_two = first_of(first->reads.in[m], second->reads.in[m]);
+    uint32_t of_last_two = first_of(second->reads.in[m], third->reads.in[m]);
+    uint32_t number = first_of(first->reads.in[m], of_last_two);
+    expect_number("the first two", join(m, &first->file, &second->file, &half), of_first_two);
+    if (of_first_two == VMD_OK)
+        expect_number("and the third", join(m, &half, &third->file, &left), number);
+    expect_number("the last two", join(m, &second->file, &third->file, &half), of_last_two);
+    if (of_last_two == VMD_OK)
+        expect_number("after the first", join(m, &first->file, &half, &right), number);
+    if (number != VMD_OK)
+        return;
+    expect_number("length, the first two first", left.len, expected->len);
+    expect_number("length, the last two first", right.len, expected->len);
+    expect_bytes("the first two first", left.at, expected->at, expected->len);
+    expect_bytes("the last two first", right.at, expected->at, expected->len);
 }
 
 /* Three joined both ways, and the bytes told by the encoder. */
 static void three_joined(void)
 {
     size_t i, j, k;
+    enum manner m;
     for (i = 0; i < n_samples; i++)
         for (j = 0; j < n_samples; j++)
             for (k = 0; k < n_samples; k++) {
                 struct take means = joined(&samples[i].means, &samples[j].means);
-                struct bytes half, left, right, expected;
+                struct bytes expected;
                 means = joined(&means, &samples[k].means);
                 encode(&expected, &means, CANONICAL);
                 trial("join of %s, %s and %s", samples[i].name, samples[j].name, samples[k].name);
-                join(&samples[i].file, &samples[j].file, &half);
-                join(&half, &samples[k].file, &left);
-                join(&samples[j].file, &samples[k].file, &half);
-                join(&samples[i].file, &half, &right);
-                expect_number("length, the first two first", left.len, expected.len);
-                expect_number("length, the last two first", right.len, expected.len);
-                expect_bytes("the first two first", left.at, expected.at, expected.len);
-                expect_bytes("the last two first", right.at, expected.at, expected.len);
+                for (m = STRICT; m < MANNERS; m++)
+                    join_three(m, &samples[i], &samples[j], &samples[k], &expected);
             }
 }
 
@@ -374,28 +269,28 @@ static void many_records(void)
     trial("60 times the records of a take");
     encode_times(&first, &t, 60, RAW);
     encode_times(&expected, &t, 60, CANONICAL);
-    try_export(&first, &expected);
+    try_export(&first, alike(VMD_OK), &expected);
     encode_times_in(&expected, OLDER, &t, 60, CANONICAL);
-    try_older(&first, &expected);
+    try_older(&first, alike(VMD_OK), &expected);
     trial("60 times the records of an older take");
     encode_times_in(&first, OLDER, &t, 60, RAW);
-    try_older(&first, &expected);
+    try_older(&first, alike(VMD_OK), &expected);
     encode_times(&expected, &t, 60, CANONICAL);
-    try_export(&first, &expected);
+    try_export(&first, alike(VMD_OK), &expected);
     trial("40 times the records of a take, and 50 times");
     encode_times(&first, &t, 40, RAW);
     encode_times(&second, &t, 50, RAW);
     encode_times(&expected, &t, 90, CANONICAL);
-    try_join(&first, &second, &expected);
+    try_join(&first, &second, alike(VMD_OK), &expected);
     trial("40 times the records of a take, and 50 times those of an older one");
     encode_times_in(&second, OLDER, &t, 50, RAW);
-    try_join(&first, &second, &expected);
-    try_join(&second, &first, &expected);
+    try_join(&first, &second, alike(VMD_OK), &expected);
+    try_join(&second, &first, alike(VMD_OK), &expected);
 }
 
 /* ---- what the paper tells in figures and words */
 
-static void one_bone_each(void)
+static void one_bone_each(enum manner m)
 {
     struct take t = distinct_take(0, 1, 0, 0, 0, 0, 0), u = distinct_take(0, 1, 0, 0, 0, 0, 0);
     struct bytes first, second;
@@ -406,46 +301,46 @@ static void one_bone_each(void)
     encode(&second, &u, CANONICAL);
     expect_number("length of the first", first.len, 185);
     expect_number("length of the second", second.len, 185);
-    expect_number("join_size", vmd_join_size(first.at, 185, second.at, 185, &size), VMD_OK);
+    expect_number("join_size", join_size_in(m, first.at, 185, second.at, 185, &size), VMD_OK);
     expect_number("join_size", size, 296);
-    expect_number("join", vmd_join_animations(first.at, 185, second.at, 185, out, 296, &written), VMD_OK);
+    expect_number("join", join_in(m, first.at, 185, second.at, 185, out, 296, &written), VMD_OK);
     expect_number("written", written, 296);
     expect_number("bone count", u32_at(out + 50), 2);
     expect_bytes("first bone", out + 54, first.at + 54, 111);
     expect_bytes("second bone", out + 54 + 111, second.at + 54, 111);
 }
 
-static void bare_take(void)
+static void bare_take(enum manner m)
 {
     static const uint8_t zeros[24];
     uint64_t written = 0;
     uint8_t out[74], file[54] = "Vocaloid Motion Data 0002";
     trial("export of start,0");
-    expect_number("export", vmd_export_animation(file, 54, out, 74, &written), VMD_OK);
+    expect_number("export", export_in(m, file, 54, out, 74, &written), VMD_OK);
     expect_number("written", written, 74);
     expect_bytes("header", out, file, 50);
     expect_bytes("counts", out + 50, zeros, 24);
 }
 
 /* The older edition in figures: start,0 of 44 bytes, saved as 74 and as 64; its name is padded to 10. */
-static void bare_older_take(void)
+static void bare_older_take(enum manner m)
 {
     static const uint8_t file[44] = "Vocaloid Motion Data file\0wxyzname\0past", zeros[24];
     uint8_t out[80];
     uint64_t n = 0;
     trial("start,0 of the older edition");
-    expect_number("export_size", vmd_export_size(file, 44, &n), VMD_OK);
+    expect_number("export_size", export_size_in(m, file, 44, &n), VMD_OK);
     expect_number("export_size", n, 74);
-    expect_number("export", vmd_export_animation(file, 44, out, 74, &n), VMD_OK);
+    expect_number("export", export_in(m, file, 44, out, 74, &n), VMD_OK);
     expect_number("written", n, 74);
     expect_bytes("magic", out, "Vocaloid Motion Data 0002\0\0\0\0", 30);
     expect_bytes("model name", out + 30, "name", 4);
     expect_bytes("after it", out + 34, zeros, 16);
     expect_bytes("counts", out + 50, zeros, 24);
-    expect_number("export_older_size", vmd_export_older_size(file, 44, &n), VMD_OK);
+    expect_number("export_older_size", older_size_in(m, file, 44, &n), VMD_OK);
     expect_number("export_older_size", n, 64);
     memset(out, UNWRITTEN, sizeof out);
-    expect_number("export_older_animation", vmd_export_older_animation(file, 44, out, 80, &n), VMD_OK);
+    expect_number("export_older_animation", older_in(m, file, 44, out, 80, &n), VMD_OK);
     expect_number("written", n, 64);
     expect_bytes("older magic", out, "Vocaloid Motion Data file\0\0\0\0", 30);
     expect_bytes("older model name", out + 30, "name\0\0\0\0\0", 10);
@@ -454,7 +349,7 @@ static void bare_older_take(void)
 }
 
 /* Perspective bytes 0, 1, 2 are written 0, 1, 1, and every flag but 0 as 1; 0x41 0x00 0x42 is written 0x41 and zeros. */
-static void written_forms(void)
+static void written_forms(enum manner m)
 {
     struct take t = distinct_take(0, 1, 0, 3, 0, 0, 3);
     struct bytes b;
@@ -478,7 +373,7 @@ static void written_forms(void)
     }
     memcpy(b.at + 54, "A\0B", 3);
     trial("written forms");
-    expect_number("export", vmd_export_animation(b.at, b.len, out, sizeof out, &written), VMD_OK);
+    expect_number("export", export_in(m, b.at, b.len, out, sizeof out, &written), VMD_OK);
     expect_number("written", written, b.len);
     for (k = 0; k < 3; k++) {
         expect_number("perspective byte", out[cameras + 61 * k + 60], forms[k]);
@@ -491,24 +386,22 @@ static void written_forms(void)
 
 /* ---- a leg's IK states after saving and joining: number, name and enabled of every one */
 
-static void legs_stay_off(void)
+static void legs_stay_off(enum manner m)
 {
     struct take leg = leg_take(), other = distinct_take(3, 2, 1, 1, 1, 1, 4), both;
     struct bytes l, o, out;
-    uint64_t len = 0;
     encode(&l, &leg, RAW);
     encode(&o, &other, RAW);
     trial("a leg that goes off, exported");
-    expect_number("export", vmd_export_animation(l.at, l.len, out.at, sizeof out.at, &len), VMD_OK);
-    out.len = len;
+    expect_number("export", export(m, &l, &out), VMD_OK);
     field_by_field(&leg, out.at, out.len);
     expect_number("IK states told in the test", states_of(&leg), 6);
     trial("a leg that goes off, joined with another take");
-    join(&l, &o, &out);
+    expect_number("join", join(m, &l, &o, &out), VMD_OK);
     both = joined(&leg, &other);
     field_by_field(&both, out.at, out.len);
     trial("another take, joined with a leg that goes off");
-    join(&o, &l, &out);
+    expect_number("join", join(m, &o, &l, &out), VMD_OK);
     both = joined(&other, &leg);
     field_by_field(&both, out.at, out.len);
 }
@@ -516,7 +409,7 @@ static void legs_stay_off(void)
 /* ---- what opening a join gives: the smaller of the two smallest frames, the larger of the two largest */
 
 /* Two takes, each with its records in any one section, in both orders. One without records does not count. */
-static void joined_frames(void)
+static void joined_frames(enum manner m)
 {
     static const struct {
         size_t n[2];
@@ -548,14 +441,14 @@ static void joined_frames(void)
                 }
                 for (take = 0; take < 2; take++) {
                     trial("frames of row %zu in sections %d and %d, take %d first", k, sections[0], sections[1], take);
-                    join(&files[take], &files[1 - take], &out);
-                    try_frames(&out, rows[k].smallest, rows[k].largest);
+                    expect_number("join", join(m, &files[take], &files[1 - take], &out), VMD_OK);
+                    try_frames(&out, alike(VMD_OK), rows[k].smallest, rows[k].largest);
                 }
             }
 }
 
-/* Each sample with each, so in both orders too. What is expected of opening the two tells it. */
-static void frames_of_joined_samples(void)
+/* Each sample with each that is accepted, so in both orders too. What is expected of opening the two tells it. */
+static void frames_of_joined_samples(enum manner m)
 {
     enum { SMALLEST = VMD_TOTAL_SMALLEST_FRAME, LARGEST = VMD_TOTAL_LARGEST_FRAME };
     size_t k, l;
@@ -564,28 +457,21 @@ static void frames_of_joined_samples(void)
             const struct bytes *first = &samples[k].file, *second = &samples[l].file;
             struct opening o, p;
             struct bytes out;
-            expected_opening(first->at, first->len, &o);
-            expected_opening(second->at, second->len, &p);
+            if (expected_opening(m, first->at, first->len, &o) != VMD_OK
+                || expected_opening(m, second->at, second->len, &p) != VMD_OK)
+                continue;
             if (records_of(&o) == 0)
                 o = p;
             if (records_of(&p) == 0)
                 p = o;
             trial("frames of %s joined with %s", samples[k].name, samples[l].name);
-            join(first, second, &out);
-            try_frames(&out, smaller(o.totals[SMALLEST], p.totals[SMALLEST]), larger(o.totals[LARGEST], p.totals[LARGEST]));
+            expect_number("join", join(m, first, second, &out), VMD_OK);
+            try_frames(&out, alike(VMD_OK), smaller(o.totals[SMALLEST], p.totals[SMALLEST]),
+                       larger(o.totals[LARGEST], p.totals[LARGEST]));
         }
 }
 
 /* ---- the joined model name */
-
-static void expect_joined_model(const struct bytes *first, const struct bytes *second, const uint64_t part[3])
-{
-    uint8_t *f = lend(&lent_first, first->at, first->len), *s = lend(&lent_second, second->at, second->len);
-    vmd_joined_model(f, first->len, s, second->len, lend_unwritten(&lent_slot, 24));
-    expect_lent("joined_model", &lent_slot, part, 24);
-    expect_lent("first file", &lent_first, first->at, first->len);
-    expect_lent("second file", &lent_second, second->at, second->len);
-}
 
 /* Of files of these editions. Each has a bone, so that no zero comes after a name that fills its field. */
 static void try_joined_model(const char *first_name, enum edition first_edition, const char *second_name,
@@ -593,6 +479,7 @@ static void try_joined_model(const char *first_name, enum edition first_edition,
 {
     struct take t = distinct_take(0, 1, 0, 0, 0, 0, 0), u = distinct_take(0, 1, 1, 0, 0, 0, 0);
     struct bytes first, second, out;
+    enum manner m;
     t.model = named(first_name);
     u.model = named(second_name);
     encode_in(&first, first_edition, &t, RAW);
@@ -600,9 +487,11 @@ static void try_joined_model(const char *first_name, enum edition first_edition,
     trial("model names '%s', %s, and '%s', %s", first_name, editions[first_edition].name, second_name,
           editions[second_edition].name);
     expect_joined_model(&first, &second, part);
-    join(&first, &second, &out);
     t.model = named(first_name[0] != '\0' ? first_name : second_name);
-    expect_bytes("model name in the join", out.at + 30, t.model.at, 20);
+    for (m = STRICT; m < MANNERS; m++) {
+        expect_number("join", join(m, &first, &second, &out), VMD_OK);
+        expect_bytes("model name in the join", out.at + 30, t.model.at, 20);
+    }
     first.len = editions[first_edition].sections;
     second.len = editions[second_edition].sections;
     trial("the same, of the headers alone");
@@ -659,66 +548,84 @@ static void joined_models_of_refused_headers(void)
 static void names_up_to_ten(void)
 {
     size_t n;
-    int manner;
+    int form;
     for (n = 0; n <= 20; n++)
-        for (manner = CANONICAL; manner <= RAW; manner++) {
+        for (form = CANONICAL; form <= RAW; form++) {
             struct take t = distinct_take(n, 2, 1, 1, 1, 1, 3);
             struct bytes b, expected;
-            trial("a model name of %zu bytes, manner %d", n, manner);
-            encode(&b, &t, (enum manner)manner);
+            trial("a model name of %zu bytes, form %d", n, form);
+            encode(&b, &t, (enum form)form);
             if (n > 10) {
-                try_older_refused(&b, VMD_MODEL_NAME_TOO_LONG, b.len - 10);
+                try_older_refused(&b, alike(VMD_MODEL_NAME_TOO_LONG), b.len - 10);
                 continue;
             }
             encode_in(&expected, OLDER, &t, CANONICAL);
-            try_older(&b, &expected);
-            trial("an older model name of %zu bytes, manner %d", n, manner);
-            encode_in(&b, OLDER, &t, (enum manner)manner);
-            try_older(&b, &expected);
+            try_older(&b, alike(VMD_OK), &expected);
+            trial("an older model name of %zu bytes, form %d", n, form);
+            encode_in(&b, OLDER, &t, (enum form)form);
+            try_older(&b, alike(VMD_OK), &expected);
         }
 }
 
 /* ---- refusals: the first file's before the second's, both before 13 */
 
-static void refusals(enum edition edition)
+static void exports_refused(enum edition edition)
 {
-    struct take t = distinct_take(5, 2, 1, 1, 1, 1, 3);
-    struct bytes files[3], expected; /* files[n] is refused with n */
-    struct take both = joined(&t, &t);
-    uint32_t f, s;
+    static struct sample files[ANSWERS];
     int k;
-    encode_in(&files[0], edition, &t, RAW);
-    files[1] = files[2] = files[0];
-    files[1].len -= 1;
-    files[2].at[0] = 'v';
-    encode(&expected, &both, CANONICAL);
-    for (f = 0; f < 3; f++) {
-        if (f > 0) {
-            trial("export of a file of the %s edition that is refused with %u", editions[edition].name, f);
-            size_of_export(&files[f], f, 0);
-            export_into(&files[f], f, NULL, 4096);
-            export_into(&files[f], f, NULL, 0);
-            try_older_refused(&files[f], f, 4096);
+    make_each_answer(edition, files);
+    for (k = 0; k < ANSWERS; k++) {
+        const struct sample *s = &files[k];
+        struct bytes expected;
+        trial("export of file %d of the %s edition, to be refused with %u", k, editions[edition].name,
+              (unsigned)s->reads.in[STRICT]);
+        if (s->reads.in[LENIENT] != VMD_OK) {
+            try_export_refused(&s->file, s->reads);
+            try_older_refused(&s->file, s->reads, 4096);
+            continue;
         }
-        for (s = 0; s < 3; s++) {
-            uint32_t number = f != 0 ? f : s;
-            trial("join of files of the %s edition that are refused with %u and %u", editions[edition].name, f, s);
-            size_of_join(&files[f], &files[s], number, expected.len);
-            join_into(&files[f], &files[s], number, &expected, 4096);
-            join_into(&files[f], &files[s], number != 0 ? number : VMD_OUTPUT_TOO_SHORT, NULL, 0);
-        }
+        encode(&expected, &s->means, CANONICAL);
+        try_export(&s->file, s->reads, &expected);
+        encode_in(&expected, OLDER, &s->means, CANONICAL);
+        try_older(&s->file, s->reads, &expected);
     }
+}
+
+/* Each file with each, of these editions. */
+static void joins_refused(enum edition first_edition, enum edition second_edition)
+{
+    static struct sample first[ANSWERS], second[ANSWERS];
+    int f, s;
+    make_each_answer(first_edition, first);
+    make_each_answer(second_edition, second);
+    for (f = 0; f < ANSWERS; f++)
+        for (s = 0; s < ANSWERS; s++) {
+            struct reading reads = then(first[f].reads, second[s].reads);
+            struct take both = joined(&first[f].means, &second[s].means);
+            struct bytes expected;
+            trial("join of file %d of the %s edition with file %d of the %s", f, editions[first_edition].name, s,
+                  editions[second_edition].name);
+            encode(&expected, &both, CANONICAL);
+            try_join(&first[f].file, &second[s].file, reads, &expected);
+        }
+}
+
+/* Headers that are cut, before and after other files. */
+static void headers_refused(enum edition edition)
+{
+    static struct sample files[ANSWERS];
+    int k, l;
+    make_each_answer(edition, files);
     for (k = 0; k < 3; k++) {
-        files[1].len = k == 0 ? editions[edition].sections - 1 : k == 1 ? MAGIC_FIELD : 0;
-        trial("%zu bytes of the %s edition", files[1].len, editions[edition].name);
-        size_of_export(&files[1], VMD_ENDS_EARLY, 0);
-        export_into(&files[1], VMD_ENDS_EARLY, NULL, 100);
-        try_older_refused(&files[1], VMD_ENDS_EARLY, 100);
-        size_of_join(&files[1], &files[2], VMD_ENDS_EARLY, 0);
-        size_of_join(&files[2], &files[1], VMD_MAGIC_DIFFERS, 0);
-        join_into(&files[1], &files[2], VMD_ENDS_EARLY, NULL, 100);
-        join_into(&files[2], &files[1], VMD_MAGIC_DIFFERS, NULL, 100);
-        join_into(&files[0], &files[1], VMD_ENDS_EARLY, NULL, 4096);
+        struct bytes *b = &files[CUT].file;
+        b->len = k == 0 ? editions[edition].sections - 1 : k == 1 ? MAGIC_FIELD : 0;
+        trial("%zu bytes of the %s edition", b->len, editions[edition].name);
+        try_export_refused(b, alike(VMD_ENDS_EARLY));
+        try_older_refused(b, alike(VMD_ENDS_EARLY), 100);
+        for (l = 0; l < ANSWERS; l++) {
+            try_join_refused(b, &files[l].file, alike(VMD_ENDS_EARLY));
+            try_join_refused(&files[l].file, b, then(files[l].reads, alike(VMD_ENDS_EARLY)));
+        }
     }
 }
 
@@ -730,19 +637,19 @@ static void refusals_of_long_names(void)
     struct opening o;
     size_t n;
     encode(&whole, &t, RAW);
-    for (n = whole.len; n-- > 0;) {
-        uint32_t number;
+    for (n = whole.len + 5; n-- > 0;) {
         b = whole;
         b.len = n;
-        number = expected_opening(b.at, n, &o);
-        trial("a file with a model name of 11 bytes, cut after %zu bytes", n);
-        try_older_refused(&b, number != VMD_OK ? number : VMD_MODEL_NAME_TOO_LONG, whole.len - 10);
+        if (n > whole.len)
+            memset(b.at + whole.len, 0, n - whole.len);
+        trial("a file with a model name of 11 bytes, cut or with bytes over, %zu of %zu bytes", n, whole.len);
+        try_older_refused(&b, then(expected_reading(b.at, n, &o), alike(VMD_MODEL_NAME_TOO_LONG)), whole.len - 10);
     }
     for (n = 0; n < 26; n++) {
         b = whole;
         b.at[n] ^= 1;
         trial("a file with a model name of 11 bytes, byte %zu of its magic changed", n);
-        try_older_refused(&b, VMD_MAGIC_DIFFERS, whole.len - 10);
+        try_older_refused(&b, alike(VMD_MAGIC_DIFFERS), whole.len - 10);
     }
 }
 
@@ -752,41 +659,40 @@ static void cut_anywhere(enum edition edition)
     struct take t = distinct_take(9, 2, 2, 2, 2, 2, 3), u = distinct_take(0, 1, 0, 0, 0, 0, 2);
     struct bytes b, other, expected;
     struct opening o;
-    size_t n, s;
+    size_t n;
     encode_in(&b, edition, &t, RAW);
     encode(&other, &u, RAW);
     for (n = b.len; n-- > 0;) {
-        struct take cut = t, both;
-        uint32_t number;
+        struct reading reads;
+        struct take cut, both;
         b.len = n;
-        number = expected_opening(b.at, n, &o);
-        for (s = 0; s < SECTIONS; s++)
-            cut.counts[s] = o.counts[s];
+        reads = expected_reading(b.at, n, &o);
         trial("a file of the %s edition cut after %zu bytes", editions[edition].name, n);
-        if (number != VMD_OK) {
-            size_of_export(&b, number, 0);
-            export_into(&b, number, NULL, 4096);
-            try_older_refused(&b, number, 4096);
-            join_into(&b, &other, number, NULL, 4096);
-            join_into(&other, &b, number, NULL, 4096);
+        if (reads.in[LENIENT] != VMD_OK) {
+            try_export_refused(&b, reads);
+            try_older_refused(&b, reads, 4096);
+            try_join_refused(&b, &other, reads);
+            try_join_refused(&other, &b, reads);
             continue;
         }
+        cut = left_of(&t, &o);
         encode(&expected, &cut, CANONICAL);
-        try_export(&b, &expected);
+        try_export(&b, reads, &expected);
         encode_in(&expected, OLDER, &cut, CANONICAL);
-        try_older(&b, &expected);
+        try_older(&b, reads, &expected);
         both = joined(&cut, &u);
         encode(&expected, &both, CANONICAL);
-        try_join(&b, &other, &expected);
+        try_join(&b, &other, reads, &expected);
         both = joined(&u, &cut);
         encode(&expected, &both, CANONICAL);
-        try_join(&other, &b, &expected);
+        try_join(&other, &b, reads, &expected);
     }
 }
 
 int main(void)
 {
-    enum edition edition;
+    enum edition edition, other;
+    enum manner m;
     make_samples();
     exports();
     older_exports();
@@ -795,19 +701,24 @@ int main(void)
     empty_takes_on_either_side();
     three_joined();
     many_records();
-    one_bone_each();
-    bare_take();
-    bare_older_take();
-    written_forms();
-    legs_stay_off();
-    joined_frames();
-    frames_of_joined_samples();
+    for (m = STRICT; m < MANNERS; m++) {
+        one_bone_each(m);
+        bare_take(m);
+        bare_older_take(m);
+        written_forms(m);
+        legs_stay_off(m);
+        joined_frames(m);
+        frames_of_joined_samples(m);
+    }
     joined_models();
     joined_models_of_refused_headers();
     names_up_to_ten();
     refusals_of_long_names();
     for (edition = NEWER; edition < EDITIONS; edition++) {
-        refusals(edition);
+        exports_refused(edition);
+        for (other = NEWER; other < EDITIONS; other++)
+            joins_refused(edition, other);
+        headers_refused(edition);
         cut_anywhere(edition);
     }
     return finished("export_join");

@@ -50,7 +50,7 @@ static struct take opened_frames(enum edition edition, size_t n, enum pattern pa
 {
     struct take t = frames_take(n, pattern);
     encode_in(b, edition, &t, RAW);
-    expect_number("the test's own file", expected_opening(b->at, b->len, o), VMD_OK);
+    expect_reading("the test's own file", expected_reading(b->at, b->len, o), alike(VMD_OK));
     return t;
 }
 
@@ -94,7 +94,7 @@ static void expect_answer(const struct view *v, size_t i, uint32_t number)
 
 /* ---- opening */
 
-/* A sixteenth of the frames, rounded up: with one place less it is 3. */
+/* A sixteenth of the frames, rounded up: with one place less it is 3. The strict manner meets a byte over before that. */
 static void places_needed(enum edition edition)
 {
     static const struct {
@@ -104,17 +104,23 @@ static void places_needed(enum edition edition)
         {65, 5}, {70, 5},
     };
     enum pattern pattern;
+    enum manner m;
     size_t k, n;
     for (k = 0; k < sizeof rows / sizeof *rows; k++)
         for (pattern = NONE; pattern < PATTERNS; pattern++) {
             struct bytes b;
             struct opening o;
             opened_frames(edition, rows[k].frames, pattern, &b, &o);
+            put_byte(&b, 0);
             for (n = 0; n <= rows[k].places + 2; n++) {
+                uint32_t number = n < rows[k].places ? VMD_SCRATCH_TOO_SHORT : VMD_OK;
                 trial("%zu property frames and %zu places, pattern %u, %s edition", rows[k].frames, n, pattern,
                       editions[edition].name);
                 expect_number("places expected", o.n_places, rows[k].places);
-                open_with(b.at, b.len, n, n < rows[k].places ? VMD_SCRATCH_TOO_SHORT : VMD_OK, &o);
+                for (m = STRICT; m < MANNERS; m++) {
+                    open_with(m, b.at, b.len - 1, n, number, &o);
+                    open_with(m, b.at, b.len, n, m == STRICT ? VMD_BYTES_OVER : number, &o);
+                }
             }
         }
 }
@@ -124,11 +130,13 @@ static void cut_before_short(enum edition edition)
 {
     struct bytes b;
     struct opening o;
+    enum manner m;
     size_t n;
     opened_frames(edition, 40, MIXED, &b, &o);
     for (n = 0; n < 5; n++) {
         trial("40 property frames less a byte and %zu places, %s edition", n, editions[edition].name);
-        open_with(b.at, b.len - 1, n, VMD_ENDS_EARLY, &o);
+        for (m = STRICT; m < MANNERS; m++)
+            open_with(m, b.at, b.len - 1, n, VMD_ENDS_EARLY, &o);
     }
 }
 
@@ -174,7 +182,7 @@ static void many_states(void)
         }
     }
     trial("frames of up to 300 IK states");
-    expect_number("refusal", try_opening(b.at, b.len, &o), VMD_OK);
+    expect_reading("refusal", try_opening(b.at, b.len, &o), alike(VMD_OK));
     v = lend_opened(b.at, b.len, &o);
     for (i = 0; i <= FRAMES; i++) {
         fetch_property(&v, i);
@@ -504,13 +512,14 @@ static void states_at(const uint8_t *file, size_t len, uint64_t place, const str
     expect_view(file, len, counts, places, &place, 1);
 }
 
-/* From the properties' place on, one frame after another: the take's, up to the end of its properties. */
+/* From the properties' place on, one frame after another: the take's, up to the end of its properties, bytes over or not. */
 static void walk_by_place(const struct take *t, const uint8_t *file, size_t len, uint64_t end)
 {
     struct opening o;
     uint64_t at, next = 0;
     size_t i;
-    expect_number("the test's own file", expected_opening(file, len, &o), VMD_OK);
+    expect_reading("the test's own file", expected_reading(file, len, &o),
+                   reading(end < len ? VMD_BYTES_OVER : VMD_OK, VMD_OK));
     at = o.places[VMD_PROPERTIES];
     for (i = 0; i < t->counts[5]; i++, at = next) {
         const struct property *p = &t->properties[i];

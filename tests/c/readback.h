@@ -1,8 +1,9 @@
-/* A file read back through the C interface: every field of every record is the take's. */
+/* A file read back through the C interface, in either manner: every field of every record is the take's. */
 #ifndef READBACK_H
 #define READBACK_H
 
 #include "check.h"
+#include "open.h"
 #include "take.h"
 #include "vmd.h"
 
@@ -26,6 +27,7 @@ static inline void field_by_field(const struct take *t, const uint8_t *file, siz
     uint32_t counts[6], record[10], enabled;
     uint64_t places[6], totals[3], scratch[(MOST_PROPERTIES + 15) / 16], part[2];
     size_t scratch_len = (t->counts[5] + 15) / 16, i, j, s;
+    expect_opens_alike(file, len);
     expect_number("parse_animation", vmd_parse_animation(file, len, scratch, scratch_len, counts, places, totals), VMD_OK);
     for (s = 0; s < SECTIONS; s++)
         expect_number("count", counts[s], t->counts[s]);

@@ -1,5 +1,6 @@
-/* Opening, records by number, names and interpolation bytes, through the C interface. */
+/* Opening in both manners, records by number, names and interpolation bytes, through the C interface. */
 #include "check.h"
+#include "damaged.h"
 #include "expect.h"
 #include "fetch.h"
 #include "open.h"
@@ -152,15 +153,15 @@ static void try_model_name(const uint8_t *file, size_t len)
     expect_lent("file", &lent_file, file, len);
 }
 
-/* A file through all of the reader's calls. */
-static uint32_t try_file(const uint8_t *file, size_t len)
+/* A file through all of the reader's calls. Fetches have no manner: they give what the lenient opening tells. */
+static struct reading try_file(const uint8_t *file, size_t len)
 {
     struct opening o;
-    uint32_t number = try_opening(file, len, &o);
+    struct reading reads = try_opening(file, len, &o);
     try_model_name(file, len);
-    if (number == VMD_OK)
+    if (reads.in[LENIENT] == VMD_OK)
         try_fetches(file, len, o.counts, o.places, o.scratch, o.n_places);
-    return number;
+    return reads;
 }
 
 /* ---- takes of the paper, with what it says of each: in the older edition it is the same */
@@ -174,44 +175,47 @@ static const struct {
     int n_counts;
     uint32_t counts[6];
     int over; /* bytes after the counts */
-    uint32_t number;
+    struct reading reads; /* strict, lenient */
 } paper_takes[] = {
-    {"no bytes", FIRST_BYTES, 0, 0, {0}, 0, 1},
-    {"29 bytes", FIRST_BYTES, 29, 0, {0}, 0, 1},
-    {"29 bytes of 0x41", FIRST_BYTES_A, 29, 0, {0}, 0, 1},
-    {"30 bytes of 0x41", FIRST_BYTES_A, 30, 0, {0}, 0, 2},
-    {"49 bytes of 0x41", FIRST_BYTES_A, 49, 0, {0}, 0, 2},
-    {"80 bytes of 0x41", FIRST_BYTES_A, 80, 0, {0}, 0, 2},
-    {"30 bytes with the magic", FIRST_BYTES, 30, 0, {0}, 0, 1},
-    {"49 bytes with the magic", FIRST_BYTES, 49, 0, {0}, 0, 1},
-    {"start", PLAIN, 50, 0, {0}, 0, 1},
-    {"start and three bytes", PLAIN, 50, 0, {0}, 3, 1},
-    {"start,0", PLAIN, 50, 1, {0}, 0, 0},
-    {"start,0 and one byte", PLAIN, 50, 1, {0}, 1, 1},
-    {"start,0 and three bytes", PLAIN, 50, 1, {0}, 3, 1},
-    {"start,1", PLAIN, 50, 1, {1}, 0, 1},
-    {"start,1 and 110 bytes", PLAIN, 50, 1, {1}, 110, 1},
-    {"start,1 and 111 bytes", PLAIN, 50, 1, {1}, 111, 0},
-    {"start,0,1", PLAIN, 50, 2, {0, 1}, 0, 1},
-    {"start,0,1 and 22 bytes", PLAIN, 50, 2, {0, 1}, 22, 1},
-    {"start,0,1 and 23 bytes", PLAIN, 50, 2, {0, 1}, 23, 0},
-    {"start,0,0,1", PLAIN, 50, 3, {0, 0, 1}, 0, 0},
-    {"start,0,0,1 and 60 bytes", PLAIN, 50, 3, {0, 0, 1}, 60, 0},
-    {"start,0,0,1 and 61 bytes", PLAIN, 50, 3, {0, 0, 1}, 61, 0},
-    {"start,0,0,0,1", PLAIN, 50, 4, {0, 0, 0, 1}, 0, 0},
-    {"start,0,0,0,1 and 27 bytes", PLAIN, 50, 4, {0, 0, 0, 1}, 27, 0},
-    {"start,0,0,0,0,1", PLAIN, 50, 5, {0, 0, 0, 0, 1}, 0, 0},
-    {"start,0,0,0,0,1 and 8 bytes", PLAIN, 50, 5, {0, 0, 0, 0, 1}, 8, 0},
-    {"start,0,0,0,0,0,1", PLAIN, 50, 6, {0, 0, 0, 0, 0, 1}, 0, 1},
-    {"start,0,0,0,0,0,1 and 8 bytes", PLAIN, 50, 6, {0, 0, 0, 0, 0, 1}, 8, 1},
-    {"start,0,0,0,0,0,1 and 9 bytes", PLAIN, 50, 6, {0, 0, 0, 0, 0, 1}, 9, 0},
-    {"start,0,0,0,0,0,0 and 7 bytes", PLAIN, 50, 6, {0}, 7, 0},
-    {"largest bone count", PLAIN, 50, 1, {0xFFFFFFFF}, 111, 1},
-    {"largest morph count", PLAIN, 50, 2, {0, 0xFFFFFFFF}, 23, 1},
-    {"largest camera count", PLAIN, 50, 3, {0, 0, 0xFFFFFFFF}, 200, 0},
-    {"largest light count", PLAIN, 50, 4, {0, 0, 0, 0xFFFFFFFF}, 200, 0},
-    {"largest self-shadow count", PLAIN, 50, 5, {0, 0, 0, 0, 0xFFFFFFFF}, 200, 0},
-    {"largest property count", PLAIN, 50, 6, {0, 0, 0, 0, 0, 0xFFFFFFFF}, 200, 1},
+    {"no bytes", FIRST_BYTES, 0, 0, {0}, 0, {{1, 1}}},
+    {"29 bytes", FIRST_BYTES, 29, 0, {0}, 0, {{1, 1}}},
+    {"29 bytes of 0x41", FIRST_BYTES_A, 29, 0, {0}, 0, {{1, 1}}},
+    {"30 bytes of 0x41", FIRST_BYTES_A, 30, 0, {0}, 0, {{2, 2}}},
+    {"49 bytes of 0x41", FIRST_BYTES_A, 49, 0, {0}, 0, {{2, 2}}},
+    {"80 bytes of 0x41", FIRST_BYTES_A, 80, 0, {0}, 0, {{2, 2}}},
+    {"30 bytes with the magic", FIRST_BYTES, 30, 0, {0}, 0, {{1, 1}}},
+    {"49 bytes with the magic", FIRST_BYTES, 49, 0, {0}, 0, {{1, 1}}},
+    {"start", PLAIN, 50, 0, {0}, 0, {{1, 1}}},
+    {"start and three bytes", PLAIN, 50, 0, {0}, 3, {{1, 1}}},
+    {"start,0", PLAIN, 50, 1, {0}, 0, {{0, 0}}},
+    {"start,0 and one byte", PLAIN, 50, 1, {0}, 1, {{1, 1}}},
+    {"start,0 and three bytes", PLAIN, 50, 1, {0}, 3, {{1, 1}}},
+    {"start,1", PLAIN, 50, 1, {1}, 0, {{1, 1}}},
+    {"start,1 and 110 bytes", PLAIN, 50, 1, {1}, 110, {{1, 1}}},
+    {"start,1 and 111 bytes", PLAIN, 50, 1, {1}, 111, {{0, 0}}},
+    {"start,0,1", PLAIN, 50, 2, {0, 1}, 0, {{1, 1}}},
+    {"start,0,1 and 22 bytes", PLAIN, 50, 2, {0, 1}, 22, {{1, 1}}},
+    {"start,0,1 and 23 bytes", PLAIN, 50, 2, {0, 1}, 23, {{0, 0}}},
+    {"start,0,0,1", PLAIN, 50, 3, {0, 0, 1}, 0, {{17, 0}}},
+    {"start,0,0,1 and 60 bytes", PLAIN, 50, 3, {0, 0, 1}, 60, {{17, 0}}},
+    {"start,0,0,1 and 61 bytes", PLAIN, 50, 3, {0, 0, 1}, 61, {{0, 0}}},
+    {"start,0,0,0,1", PLAIN, 50, 4, {0, 0, 0, 1}, 0, {{17, 0}}},
+    {"start,0,0,0,1 and 27 bytes", PLAIN, 50, 4, {0, 0, 0, 1}, 27, {{17, 0}}},
+    {"start,0,0,0,0,1", PLAIN, 50, 5, {0, 0, 0, 0, 1}, 0, {{17, 0}}},
+    {"start,0,0,0,0,1 and 8 bytes", PLAIN, 50, 5, {0, 0, 0, 0, 1}, 8, {{17, 0}}},
+    {"start,0,0,0,0,0,1", PLAIN, 50, 6, {0, 0, 0, 0, 0, 1}, 0, {{1, 1}}},
+    {"start,0,0,0,0,0,1 and 8 bytes", PLAIN, 50, 6, {0, 0, 0, 0, 0, 1}, 8, {{1, 1}}},
+    {"start,0,0,0,0,0,1 and 9 bytes", PLAIN, 50, 6, {0, 0, 0, 0, 0, 1}, 9, {{0, 0}}},
+    {"start,0,0,0,0,0,1 and 10 bytes", PLAIN, 50, 6, {0, 0, 0, 0, 0, 1}, 10, {{16, 0}}},
+    {"start,0,0,0,0,0,0", PLAIN, 50, 6, {0}, 0, {{0, 0}}},
+    {"start,0,0,0,0,0,0 and one byte", PLAIN, 50, 6, {0}, 1, {{16, 0}}},
+    {"start,0,0,0,0,0,0 and 7 bytes", PLAIN, 50, 6, {0}, 7, {{16, 0}}},
+    {"largest bone count", PLAIN, 50, 1, {0xFFFFFFFF}, 111, {{1, 1}}},
+    {"largest morph count", PLAIN, 50, 2, {0, 0xFFFFFFFF}, 23, {{1, 1}}},
+    {"largest camera count", PLAIN, 50, 3, {0, 0, 0xFFFFFFFF}, 200, {{17, 0}}},
+    {"largest light count", PLAIN, 50, 4, {0, 0, 0, 0xFFFFFFFF}, 200, {{17, 0}}},
+    {"largest self-shadow count", PLAIN, 50, 5, {0, 0, 0, 0, 0xFFFFFFFF}, 200, {{17, 0}}},
+    {"largest property count", PLAIN, 50, 6, {0, 0, 0, 0, 0, 0xFFFFFFFF}, 200, {{1, 1}}},
 };
 
 static void takes_of_the_paper(enum edition edition)
@@ -233,11 +237,11 @@ static void takes_of_the_paper(enum edition edition)
         for (i = 0; i < paper_takes[k].over; i++)
             put_byte(&b, 0);
         trial("takes of the paper, %s edition: %s", editions[edition].name, paper_takes[k].name);
-        expect_number("refusal", try_file(b.at, b.len), paper_takes[k].number);
+        expect_reading("refusal", try_file(b.at, b.len), paper_takes[k].reads);
     }
 }
 
-/* Where the places are told in words: after the count, or the file's length. */
+/* Where the places are told in words: after the count, or the file's length. Only the lenient manner empties a section. */
 static void places_of_empty_sections(enum edition edition)
 {
     static const uint32_t oversized[3] = {0, 0, 1};
@@ -252,7 +256,9 @@ static void places_of_empty_sections(enum edition edition)
     put_u32s(&b, oversized, 3);
     put(&b, b.at, 40);
     trial("places of empty sections, %s edition", editions[edition].name);
-    expect_number("parse_animation", vmd_parse_animation(b.at, b.len, NULL, 0, counts, places, totals), VMD_OK);
+    expect_number("parse_animation", vmd_parse_animation(b.at, b.len, NULL, 0, counts, places, totals), VMD_COUNT_OVERSIZED);
+    expect_number("parse_animation_lenient", vmd_parse_animation_lenient(b.at, b.len, NULL, 0, counts, places, totals),
+                  VMD_OK);
     for (s = 0; s < SECTIONS; s++) {
         expect_number("count", counts[s], 0);
         expect_number("place", places[s], told[edition][s < 2 ? s : 2]);
@@ -319,14 +325,14 @@ static void frames_of_no_records(void)
         encode(&b, &none, CANONICAL);
         b.len = 54 + 4 * (size_t)section;
         trial("no records, the last count that of section %d", section);
-        try_frames(&b, 0, 0);
+        try_frames(&b, alike(VMD_OK), 0, 0);
         if (section < VMD_CAMERAS || section > VMD_SELF_SHADOWS)
             continue;
         trial("no records, section %d emptied", section);
         b.at[b.len - 4] = 1;
         put_u32(&b, 7);
         put_u32(&b, 7);
-        try_frames(&b, 0, 0);
+        try_frames(&b, reading(VMD_COUNT_OVERSIZED, VMD_OK), 0, 0);
     }
 }
 
@@ -343,7 +349,7 @@ static void frames_of_one_record(void)
             *frame_of(&t, section, 0) = frames[k];
             encode(&b, &t, RAW);
             trial("frame %u in section %d, and no other record", frames[k], section);
-            try_frames(&b, frames[k], frames[k]);
+            try_frames(&b, alike(VMD_OK), frames[k], frames[k]);
         }
 }
 
@@ -365,7 +371,7 @@ static void frames_of_many_records(void)
                     *frame_of(&t, section, i) = frames[k];
                     encode(&b, &t, RAW);
                     trial("frame %u in record %zu of %zu in section %d", frames[k], i, n, section);
-                    try_frames(&b, smaller(frames[k], others), larger(frames[k], others));
+                    try_frames(&b, alike(VMD_OK), smaller(frames[k], others), larger(frames[k], others));
                 }
 }
 
@@ -383,7 +389,7 @@ static void cut_anywhere(enum edition edition)
     }
     put(&b, b.at, 30);
     trial("six sections of the %s edition with 30 bytes over", editions[edition].name);
-    expect_number("refusal", try_file(b.at, b.len), VMD_OK);
+    expect_reading("refusal", try_file(b.at, b.len), reading(VMD_BYTES_OVER, VMD_OK));
 }
 
 static void any_byte_changed(enum edition edition)
@@ -397,17 +403,24 @@ static void any_byte_changed(enum edition edition)
     for (n = 0; n < b.len; n++)
         for (k = 0; k < sizeof values; k++) {
             uint8_t kept = b.at[n];
-            uint32_t number;
+            struct reading reads;
             b.at[n] = values[k];
             trial("six sections of the %s edition with byte %zu made %u", editions[edition].name, n, values[k]);
-            number = try_opening(b.at, b.len, &o);
+            reads = try_opening(b.at, b.len, &o);
             try_model_name(b.at, b.len);
             if (n < 26 && values[k] != kept)
-                expect_number("refusal", number, VMD_MAGIC_DIFFERS);
+                expect_reading("refusal", reads, alike(VMD_MAGIC_DIFFERS));
             if (n >= 26 && n < editions[edition].sections)
-                expect_number("refusal", number, VMD_OK);
+                expect_reading("refusal", reads, alike(VMD_OK));
             b.at[n] = kept;
         }
+}
+
+/* Fetches, names and the model name of files that the strict manner refuses are what they are of any file. */
+static void try_damaged(const struct sample *d)
+{
+    trial("%s", d->name);
+    expect_reading("refusal", try_file(d->file.at, d->file.len), d->reads);
 }
 
 /* ---- openings and scratch of another file */
@@ -420,8 +433,8 @@ static void openings_of_another_file(void)
     size_t n;
     encode(&l, &longer, RAW);
     encode(&s, &shorter, RAW);
-    expected_opening(l.at, l.len, &of_longer);
-    expected_opening(s.at, s.len, &of_shorter);
+    expected_opening(STRICT, l.at, l.len, &of_longer);
+    expected_opening(STRICT, s.at, s.len, &of_shorter);
     trial("a longer file with a shorter one's opening");
     try_fetches(l.at, l.len, of_shorter.counts, of_shorter.places, of_shorter.scratch, of_shorter.n_places);
     trial("a shorter file with a longer one's opening");
@@ -447,7 +460,7 @@ static void places_anywhere(void)
     uint64_t near_end[40];
     size_t n = 0, k, s;
     encode(&b, &t, RAW);
-    expected_opening(b.at, b.len, &o);
+    expected_opening(STRICT, b.at, b.len, &o);
     near_end[n++] = 0;
     near_end[n++] = b.len;
     near_end[n++] = b.len + 1;
@@ -487,7 +500,7 @@ static void many_records(enum edition edition)
     size_t i, j;
     encode_times_in(&b, edition, &t, 60, RAW);
     trial("60 times the records of a take, %s edition", editions[edition].name);
-    expect_number("refusal", try_opening(b.at, b.len, &o), VMD_OK);
+    expect_reading("refusal", try_opening(b.at, b.len, &o), alike(VMD_OK));
     expect_number("bones", o.counts[0], 300);
     v = lend_view(b.at, b.len, o.counts, o.places, o.scratch, o.n_places);
     for (i = 0; i <= 480; i++) {
@@ -511,9 +524,9 @@ static void older_lengths(void)
     static const struct {
         size_t len;
         uint32_t number;
-    } rows[] = {
+    } rows[] = { /* where the strict number is 16, the lenient one is 0 */
         {0, 1}, {25, 1}, {26, 1}, {29, 1}, {30, 1}, {39, 1}, {40, 1}, {43, 1}, {44, 0}, {45, 1}, {47, 1}, {48, 0}, {50, 1},
-        {53, 1}, {54, 1}, {64, 0},
+        {53, 1}, {54, 1}, {64, 0}, {65, 16}, {104, 16},
     };
     struct name none = named("");
     struct bytes b;
@@ -523,7 +536,8 @@ static void older_lengths(void)
     memset(b.at + b.len, 0, 64);
     for (k = 0; k < sizeof rows / sizeof *rows; k++) {
         trial("the older magic and zeros, %zu bytes", rows[k].len);
-        expect_number("refusal", try_file(b.at, rows[k].len), rows[k].number);
+        expect_reading("refusal", try_file(b.at, rows[k].len),
+                       reading(rows[k].number, rows[k].number == VMD_BYTES_OVER ? VMD_OK : rows[k].number));
     }
 }
 
@@ -534,15 +548,15 @@ static void mixed_magics(void)
     struct bytes b;
     unsigned mixture, i;
     for (mixture = 0; mixture < 16; mixture++) {
-        uint32_t number;
+        struct reading reads;
         encode(&b, &t, RAW);
         for (i = 0; i < 4; i++)
             if (mixture >> i & 1)
                 b.at[21 + i] = (uint8_t)editions[OLDER].magic[21 + i];
         trial("a magic that ends with '%.4s'", (const char *)b.at + 21);
-        number = try_file(b.at, b.len);
+        reads = try_file(b.at, b.len);
         if (mixture > 0 && mixture < 15)
-            expect_number("refusal", number, VMD_MAGIC_DIFFERS);
+            expect_reading("refusal", reads, alike(VMD_MAGIC_DIFFERS));
     }
 }
 
@@ -558,14 +572,14 @@ static void expect_model_name(const struct bytes *b, size_t len, uint64_t place,
 static void older_model_names(void)
 {
     size_t n;
-    int manner;
+    int form;
     for (n = 0; n <= 10; n++)
-        for (manner = CANONICAL; manner <= RAW; manner++) {
+        for (form = CANONICAL; form <= RAW; form++) {
             struct take t = distinct_take(n, 3, 0, 0, 0, 0, 0);
             struct bytes b;
-            encode_in(&b, OLDER, &t, (enum manner)manner);
-            trial("an older model name of %zu bytes, manner %d", n, manner);
-            expect_number("refusal", try_file(b.at, b.len), VMD_OK);
+            encode_in(&b, OLDER, &t, (enum form)form);
+            trial("an older model name of %zu bytes, form %d", n, form);
+            expect_reading("refusal", try_file(b.at, b.len), alike(VMD_OK));
             expect_number("the test's own bone count", b.at[40], 3);
             expect_model_name(&b, b.len, n > 0 ? 30 : 0, n);
             expect_model_name(&b, 44, n > 0 ? 30 : 0, n);
@@ -575,25 +589,31 @@ static void older_model_names(void)
         }
 }
 
-/* An older file opens as its widened file does; places and scratch are 10 less. */
+/* An older file opens as its widened file does, in each manner; places and scratch are 10 less. */
 static void try_widened(const struct bytes *older, struct opening *o)
 {
     struct bytes newer;
-    uint32_t number;
+    struct reading reads;
+    enum manner m;
     size_t s, i;
     widen(&newer, older);
-    number = try_opening(newer.at, newer.len, o);
+    reads = try_opening(newer.at, newer.len, o);
     for (s = 0; s < SECTIONS; s++)
         o->places[s] -= NARROWER;
     for (i = 0; i < o->n_places; i++)
         o->scratch[i] -= NARROWER;
-    open_with(older->at, older->len, o->n_places, number, o);
-    open_with(older->at, older->len, o->n_places + 2, number, o);
-    if (number == VMD_OK)
+    for (m = STRICT; m < MANNERS; m++) {
+        open_with(m, older->at, older->len, o->n_places, reads.in[m], o);
+        open_with(m, older->at, older->len, o->n_places + 2, reads.in[m], o);
+    }
+    if (reads.in[LENIENT] == VMD_OK)
         try_fetches(older->at, older->len, o->counts, o->places, o->scratch, o->n_places);
 }
 
-/* Cut anywhere after the header: sections are whole, emptied and missing. And of more records than one byte can count. */
+/*
+ * Cut anywhere after the header, or with bytes over: sections are whole, emptied and missing. And of more records than one
+ * byte can count.
+ */
 static void older_places(void)
 {
     struct take t = distinct_take(10, 2, 3, 2, 2, 3, 4);
@@ -601,6 +621,7 @@ static void older_places(void)
     static struct opening o;
     size_t n;
     encode_in(&b, OLDER, &t, RAW);
+    put(&b, b.at, 10);
     for (n = b.len; n >= 40; n--) {
         b.len = n;
         trial("an older file cut after %zu bytes, widened", n);
@@ -620,8 +641,8 @@ static void openings_of_the_other_edition(void)
     struct opening of_older, of_newer;
     encode_in(&older, OLDER, &t, RAW);
     widen(&newer, &older);
-    expected_opening(older.at, older.len, &of_older);
-    expected_opening(newer.at, newer.len, &of_newer);
+    expected_opening(STRICT, older.at, older.len, &of_older);
+    expected_opening(STRICT, newer.at, newer.len, &of_newer);
     trial("an older file with its widened file's opening");
     try_fetches(older.at, older.len, of_newer.counts, of_newer.places, of_newer.scratch, of_newer.n_places);
     trial("a widened file with the older one's opening");
@@ -636,12 +657,15 @@ static void slices_of_no_elements(void)
     uint32_t counts[6], record[8] = {1, 2, 3};
     uint64_t places[6], totals[3], part[2] = {7, 7};
     uint8_t *closed = end_of(&lent_file);
+    enum manner m;
     trial("slices of no elements");
     encode(&b, &t, RAW);
-    expect_number("parse_animation", vmd_parse_animation(b.at, b.len, (uint64_t *)(void *)closed, 0, counts, places, totals),
-                  VMD_OK);
-    expect_number("parse_animation", vmd_parse_animation(closed, 0, NULL, 0, counts, places, totals), VMD_ENDS_EARLY);
-    expect_number("parse_animation", vmd_parse_animation(NULL, 0, NULL, 0, counts, places, totals), VMD_ENDS_EARLY);
+    for (m = STRICT; m < MANNERS; m++) {
+        expect_number("parse_animation", parse_in(m, b.at, b.len, (uint64_t *)(void *)closed, 0, counts, places, totals),
+                      VMD_OK);
+        expect_number("parse_animation", parse_in(m, closed, 0, NULL, 0, counts, places, totals), VMD_ENDS_EARLY);
+        expect_number("parse_animation", parse_in(m, NULL, 0, NULL, 0, counts, places, totals), VMD_ENDS_EARLY);
+    }
     expect_number("bone_frame", vmd_bone_frame(closed, 0, counts, places, 0, record), VMD_OUTSIDE);
     counts[5] = 1;
     expect_number("property_frame", vmd_property_frame(b.at, b.len, counts, places, NULL, 0, 0, record), VMD_OUTSIDE);
@@ -662,6 +686,7 @@ int main(void)
         six_sections(edition);
         cut_anywhere(edition);
         any_byte_changed(edition);
+        each_damaged(edition, try_damaged);
         many_records(edition);
     }
     flags();

@@ -3,13 +3,19 @@
  * oracle/samples.sh writes anew and whose format oracle/README.md has. An answer is compared by its number and its digest.
  * To an older file it is the original's answer to its widened file. Columns are lent as the list has them, the lowest byte
  * first.
+ *
+ * The original's reading is the lenient manner's. The strict calls are made beside it: what they do not refuse for bytes
+ * over or an oversized count is the same answer.
  */
 #include "check.h"
+#include "expect.h"
+#include "manner.h"
+#include "open.h"
 #include "parts.h"
 #include "take.h"
 #include "vmd.h"
 
-static struct fence lent_out, lent_slot, lent_scratch;
+static struct fence lent_out, lent_slot;
 
 /* ---- the list of cases */
 
@@ -231,18 +237,25 @@ static void digest_take(const struct opened *o)
             digest_record[s](o, i);
 }
 
-static uint32_t opened(const struct recorded *r)
+static uint32_t opened(enum manner m, const struct recorded *r)
 {
     const struct slice *f = &r->strings[0];
     struct opened o;
     uint32_t answer;
+    memset(&o, UNWRITTEN, sizeof o);
     o.file = lend(&lent[0], f->at, f->len);
     o.len = f->len;
     o.scratch_len = (f->len / VMD_PROPERTY_SIZE + 15) / 16; /* enough for any file of this length */
     o.scratch = lend_unwritten(&lent_scratch, o.scratch_len * sizeof *o.scratch);
-    answer = vmd_parse_animation(FILE_OF(&o), o.scratch, o.scratch_len, o.counts, o.places, o.totals);
-    if (answer == VMD_OK)
+    answer = parse_in(m, FILE_OF(&o), o.scratch, o.scratch_len, o.counts, o.places, o.totals);
+    if (answer == VMD_OK) {
         digest_take(&o);
+    } else {
+        expect_unwritten("counts", o.counts, sizeof o.counts);
+        expect_unwritten("places", o.places, sizeof o.places);
+        expect_unwritten("totals", o.totals, sizeof o.totals);
+        expect_lent_unwritten("scratch", &lent_scratch);
+    }
     expect_lent("file", &lent[0], f->at, f->len);
     return answer;
 }
@@ -253,59 +266,107 @@ static uint32_t opened(const struct recorded *r)
 static void digest_output(uint32_t answer, const uint64_t *written)
 {
     expect_unwritten("before the output", lent_out.at - 64, 64);
-    if (answer != VMD_OK)
-        expect_lent_unwritten("written", &lent_slot);
     digest_bytes(lent_out.at, lent_out.len);
     digest_number(answer == VMD_OK ? (uint32_t)*written : 0);
+    if (answer != VMD_OK)
+        expect_lent_unwritten("written", &lent_slot);
+    else if (*written <= lent_out.len)
+        expect_opens_alike(lent_out.at, *written);
 }
 
-static uint32_t export_of(const struct slice *file, uint8_t *out, size_t out_len, uint64_t *slot)
+static uint32_t export_of(enum manner m, const struct slice *file, uint8_t *out, size_t out_len, uint64_t *slot)
 {
     const uint8_t *f = lend(&lent[0], file->at, file->len);
-    uint32_t answer = vmd_export_animation(f, file->len, out, out_len, slot);
+    uint32_t answer = export_in(m, f, file->len, out, out_len, slot);
     expect_lent("file", &lent[0], file->at, file->len);
     return answer;
 }
 
-static uint32_t older_export_of(const struct slice *file, uint8_t *out, size_t out_len, uint64_t *slot)
+static uint32_t older_export_of(enum manner m, const struct slice *file, uint8_t *out, size_t out_len, uint64_t *slot)
 {
     const uint8_t *f = lend(&lent[0], file->at, file->len);
-    uint32_t answer = vmd_export_older_animation(f, file->len, out, out_len, slot);
+    uint32_t answer = older_in(m, f, file->len, out, out_len, slot);
     expect_lent("file", &lent[0], file->at, file->len);
     return answer;
 }
 
-static uint32_t join_of(const struct slice files[2], uint8_t *out, size_t out_len, uint64_t *slot)
+static uint32_t join_of(enum manner m, const struct slice files[2], uint8_t *out, size_t out_len, uint64_t *slot)
 {
     const uint8_t *first = lend(&lent[0], files[0].at, files[0].len), *second = lend(&lent[1], files[1].at, files[1].len);
-    uint32_t answer = vmd_join_animations(first, files[0].len, second, files[1].len, out, out_len, slot);
+    uint32_t answer = join_in(m, first, files[0].len, second, files[1].len, out, out_len, slot);
     expect_lent("first file", &lent[0], files[0].at, files[0].len);
     expect_lent("second file", &lent[1], files[1].at, files[1].len);
     return answer;
 }
 
-static uint32_t written(const struct recorded *r)
+/* Building reads no take, and has no manner. */
+static uint32_t written(enum manner m, const struct recorded *r)
 {
     uint8_t *out = lend_unwritten(&lent_out, r->out_len);
     uint64_t *slot = lend_unwritten(&lent_slot, sizeof *slot);
-    uint32_t answer = r->kind == EXPORT ? export_of(r->strings, out, r->out_len, slot)
-        : r->kind == JOIN               ? join_of(r->strings, out, r->out_len, slot)
-        : r->kind == CONVERT            ? older_export_of(r->strings, out, r->out_len, slot)
+    uint32_t answer = r->kind == EXPORT ? export_of(m, r->strings, out, r->out_len, slot)
+        : r->kind == JOIN               ? join_of(m, r->strings, out, r->out_len, slot)
+        : r->kind == CONVERT            ? older_export_of(m, r->strings, out, r->out_len, slot)
                                         : build_with(r->strings, out, r->out_len, 0, slot);
     digest_output(answer, slot);
     return answer;
 }
 
+/* ---- the answer in a manner, and its digest */
+
+static uint32_t answered(enum manner m, const struct recorded *r)
+{
+    digest = 2166136261u;
+    return r->kind == OPEN ? opened(m, r) : written(m, r);
+}
+
+/* The digest of a refusal: no records, or an output that has not been written. */
+static uint32_t digest_of_none(const struct recorded *r)
+{
+    static const uint8_t unwritten = UNWRITTEN;
+    size_t i;
+    digest = 2166136261u;
+    for (i = 0; r->kind != OPEN && i < r->out_len; i++)
+        digest_bytes(&unwritten, 1);
+    if (r->kind != OPEN)
+        digest_number(0);
+    return digest;
+}
+
+/* What reading the case's files gives, the first one's refusals first. */
+static struct reading read_files(const struct recorded *r)
+{
+    static struct opening o;
+    struct reading reads = alike(VMD_OK);
+    size_t k;
+    for (k = 0; r->kind != BUILD && k < kinds[r->kind].strings; k++)
+        reads = then(reads, expected_reading(r->strings[k].at, r->strings[k].len, &o));
+    return reads;
+}
+
 /* ---- all cases */
 
-static unsigned long cases[KINDS], different;
+static unsigned long cases[KINDS], different, over, oversized;
+
+/* The strict answer is one of reading's, or the recorded one, byte for byte. */
+static void replay_strictly(const struct recorded *r)
+{
+    struct reading reads = read_files(r);
+    uint32_t answer = answered(STRICT, r), got = digest;
+    over += answer == VMD_BYTES_OVER;
+    oversized += answer == VMD_COUNT_OVERSIZED;
+    expect_number("what the recorded answer says of reading", first_of(reads.in[LENIENT], r->answer), r->answer);
+    expect_number("answer", answer, first_of(reads.in[STRICT], r->answer));
+    expect_number("digest", got, reads.in[STRICT] == VMD_OK ? r->digest : digest_of_none(r));
+}
 
 static void replay(const struct recorded *r)
 {
     unsigned long before = failures;
-    digest = 2166136261u;
-    expect_number("answer", r->kind == OPEN ? opened(r) : written(r), r->answer);
+    expect_number("answer", answered(LENIENT, r), r->answer);
     expect_number("digest", digest, r->digest);
+    if (r->kind != BUILD)
+        replay_strictly(r);
     different += failures > before;
 }
 
@@ -331,7 +392,7 @@ static void print_tally(FILE *to)
     fprintf(to, "replay:");
     for (k = OPEN; k < KINDS; k++)
         fprintf(to, " %lu %s,", cases[k], kinds[k].name);
-    fprintf(to, " %lu otherwise\n", different);
+    fprintf(to, " %lu otherwise; strictly %lu are 16 and %lu are 17\n", different, over, oversized);
 }
 
 int main(void)
@@ -347,6 +408,7 @@ int main(void)
     trial("the list");
     for (k = OPEN; k < KINDS; k++)
         expect_number(kinds[k].name, cases[k], kinds[k].cases);
+    expect(over > 0 && oversized > 0, "no case that the strict manner alone refuses");
     print_tally(failures > 0 ? stderr : stdout);
     return failures > 0;
 }

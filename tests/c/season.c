@@ -1,10 +1,11 @@
 /*
  * Season figures, through the C interface: every slot of counts, figures and mean after every call, against a plain model of
- * them over takes of the test's own.
+ * them over takes of the test's own. Takes are read in the lenient manner: those that the strict one refuses are counted.
  *
  * Not tried: a take of more than 4,294,967,295 records; the smallest has 36 GiB.
  */
 #include "check.h"
+#include "damaged.h"
 #include "expect.h"
 #include "random.h"
 #include "vmd.h"
@@ -69,16 +70,14 @@ static struct addition of_take(const struct take *t)
     return a;
 }
 
-/* Of a file that was a take's before it was damaged: the first records of each section are still the take's. */
+/* Of a file that was a take's before it was damaged. */
 static struct addition of_damaged(const struct bytes *file, const struct take *t)
 {
     static struct opening o;
-    struct take left = *t;
-    size_t s;
-    if (expected_opening(file->at, file->len, &o) != 0)
+    struct take left;
+    if (expected_opening(LENIENT, file->at, file->len, &o) != 0)
         return of_a_refused_one();
-    for (s = 0; s < SECTIONS; s++)
-        left.counts[s] = o.counts[s];
+    left = left_of(t, &o);
     return of_take(&left);
 }
 
@@ -173,16 +172,16 @@ static void add(struct season *s, const struct bytes *file, const struct additio
 
 static struct bytes file;
 
-static void add_take_in(struct season *s, enum edition edition, const struct take *t, enum manner manner)
+static void add_take_in(struct season *s, enum edition edition, const struct take *t, enum form form)
 {
     struct addition a = of_take(t);
-    encode_in(&file, edition, t, manner);
+    encode_in(&file, edition, t, form);
     add(s, &file, &a);
 }
 
-static void add_take(struct season *s, const struct take *t, enum manner manner)
+static void add_take(struct season *s, const struct take *t, enum form form)
 {
-    add_take_in(s, NEWER, t, manner);
+    add_take_in(s, NEWER, t, form);
 }
 
 /* ---- any numbers */
@@ -477,8 +476,8 @@ static void other_counts(enum edition edition)
     s = none();
     for (section = 0; section < SECTIONS; section++) {
         encode_in(&file, edition, &t, RAW);
-        expected_opening(file.at, file.len, &o);
-        memset(file.at + o.places[section] - 4, 0xFF, 4);
+        expected_opening(STRICT, file.at, file.len, &o);
+        set_u32(&file, o.places[section] - 4, 0xFFFFFFFF);
         a = of_damaged(&file, &t);
         trial("a count of section %zu that is too large, %s edition", section, editions[edition].name);
         add(&s, &file, &a);
@@ -492,6 +491,32 @@ static void other_counts(enum edition edition)
     a = of_take(&t);
     trial("bytes after the last property frame");
     add(&s, &file, &a);
+}
+
+/* Takes that the strict manner refuses with 16 or 17 are accepted, and add what the lenient manner reads in them. */
+static struct season damaged_season;
+static size_t n_refused, n_strictly_refused;
+
+static void add_damaged(const struct sample *d)
+{
+    int refused = d->reads.in[LENIENT] != VMD_OK;
+    struct addition a = refused ? of_a_refused_one() : of_take(&d->means);
+    n_refused += (size_t)refused;
+    n_strictly_refused += d->reads.in[STRICT] != VMD_OK;
+    trial("%s", d->name);
+    add(&damaged_season, &d->file, &a);
+}
+
+static void damaged_takes(void)
+{
+    enum edition edition;
+    trial("damaged takes");
+    damaged_season = none();
+    for (edition = NEWER; edition < EDITIONS; edition++)
+        each_damaged(edition, add_damaged);
+    trial("damaged takes");
+    expect_number("refused", damaged_season.figures[VMD_SEASON_REFUSED], n_refused);
+    expect(n_strictly_refused > n_refused, "no take that only the strict manner refuses");
 }
 
 /* ---- bytes that are not counted */
@@ -541,7 +566,7 @@ static void bytes_not_counted(enum edition edition)
     expect_number("bone names", a.to[VMD_SEASON_BONE_NAMES], 3);
     expect_number("morph names", a.to[VMD_SEASON_MORPH_NAMES], 3);
     encode_in(&file, edition, &t, CANONICAL);
-    expected_opening(file.at, file.len, &o);
+    expected_opening(STRICT, file.at, file.len, &o);
     for (i = 0; i < t.counts[0]; i++)
         change("a bone's interpolation", file.at + o.places[0] + 111 * i + 47, file.at + o.places[0] + 111 * i + 111, &a);
     for (i = 0; i < t.counts[2]; i++)
@@ -898,6 +923,7 @@ int main(void)
         other_counts(edition);
         bytes_not_counted(edition);
     }
+    damaged_takes();
     names();
     many_names();
     limits();

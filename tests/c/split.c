@@ -1,243 +1,23 @@
 /*
- * Parts out of a take, through the C interface: every element of the sixteen buffers, written or not, against parts that are
- * told by the test itself; then the builder from the same memory.
+ * Parts out of a take, through the C interface, in both manners; then the builder from the same memory.
  *
  * Not tried: a name table that passes 4,294,967,295 bytes, which needs 286,331,154 names that differ; as morphs they have
  * 6 GiB.
  */
 #include "check.h"
 #include "expect.h"
+#include "open.h"
 #include "parts.h"
+#include "split.h"
 #include "vmd.h"
 
-enum { BUFFERS = 16 };
-
-/* The buffers in the call's order, and the bytes of an element of each. */
-enum buffer {
-    BONE_NAME_BYTES, BONE_NAME_ENDS, MORPH_NAME_BYTES, MORPH_NAME_ENDS,
-    CAMERAS, LIGHTS, SELF_SHADOWS, PROPERTIES,
-    BONE_INDICES, BONE_FRAMES, TRANSLATIONS, ROTATIONS, INTERPOLATIONS,
-    MORPH_INDICES, MORPH_FRAMES, WEIGHTS
-};
-
-static const struct {
-    const char *name;
-    size_t size;
-} buffers[BUFFERS] = {
-    {"bone name bytes", 1}, {"bone name ends", 4}, {"morph name bytes", 1}, {"morph name ends", 4},
-    {"cameras", 1}, {"lights", 1}, {"self-shadows", 1}, {"properties", 1},
-    {"bone name indices", 4}, {"bone frames", 4}, {"translations", 4}, {"rotations", 4}, {"interpolations", 1},
-    {"morph name indices", 4}, {"morph frames", 4}, {"weights", 4},
-};
-
-static struct fence lent_file, lent_parts[BUFFERS], lent_sizes, lent_out, lent_slot;
-
-/* ---- what is expected: parts as the memory of a program has them */
-
-struct parts {
-    struct bytes part[BUFFERS];
-    uint64_t sizes[4]; /* bone names, their bytes, morph names, theirs */
-};
-
-static void no_parts(struct parts *p)
-{
-    size_t k;
-    for (k = 0; k < BUFFERS; k++)
-        p->part[k].len = 0;
-    memset(p->sizes, 0, sizeof p->sizes);
-}
-
-static void add_numbers(struct bytes *part, const uint32_t *values, size_t n)
-{
-    put(part, values, n * sizeof *values);
-}
-
-/* The number of a name in a table, at whose end it is put where it is not there. */
-static uint32_t index_in_table(struct bytes *bytes, struct bytes *ends, const struct name *name)
-{
-    uint32_t k, from = 0, end, names = (uint32_t)(ends->len / sizeof end);
-    for (k = 0; k < names; k++, from = end) {
-        memcpy(&end, ends->at + k * sizeof end, sizeof end);
-        if (end - from == name->len && memcmp(bytes->at + from, name->at, name->len) == 0)
-            return k;
-    }
-    put(bytes, name->at, name->len);
-    end = (uint32_t)bytes->len;
-    add_numbers(ends, &end, 1);
-    return names;
-}
-
-static void add_name(struct parts *p, int morphs, const struct name *name)
-{
-    struct bytes *table = p->part + (morphs ? MORPH_NAME_BYTES : BONE_NAME_BYTES);
-    uint32_t index = index_in_table(table, table + 1, name);
-    add_numbers(p->part + (morphs ? MORPH_INDICES : BONE_INDICES), &index, 1);
-    p->sizes[morphs ? 2 : 0] = table[1].len / sizeof index;
-    p->sizes[morphs ? 3 : 1] = table[0].len;
-}
-
-static void add_bone(struct parts *p, const struct bone *r)
-{
-    add_name(p, 0, &r->name);
-    add_numbers(&p->part[BONE_FRAMES], &r->frame, 1);
-    add_numbers(&p->part[TRANSLATIONS], r->floats, 3);
-    add_numbers(&p->part[ROTATIONS], r->floats + 3, 4);
-    put(&p->part[INTERPOLATIONS], r->interpolation, 64);
-}
-
-static void add_morph(struct parts *p, const struct morph *r)
-{
-    add_name(p, 1, &r->name);
-    add_numbers(&p->part[MORPH_FRAMES], &r->frame, 1);
-    add_numbers(&p->part[WEIGHTS], &r->weight, 1);
-}
-
-/* The parts of a take whose every section has its records so many times over. */
-static void parts_of_times(struct parts *p, const struct take *t, size_t times)
-{
-    size_t n, i;
-    int s;
-    no_parts(p);
-    for (n = 0; n < times; n++) {
-        for (i = 0; i < t->counts[0]; i++)
-            add_bone(p, &t->bones[i]);
-        for (i = 0; i < t->counts[1]; i++)
-            add_morph(p, &t->morphs[i]);
-        for (s = 2; s < SECTIONS; s++)
-            put_records(&p->part[CAMERAS + s - 2], t, s, CANONICAL);
-    }
-}
-
-static void parts_of(struct parts *p, const struct take *t)
-{
-    parts_of_times(p, t, 1);
-}
-
-static void lengths_of(const struct parts *p, size_t n[BUFFERS])
-{
-    size_t k;
-    for (k = 0; k < BUFFERS; k++)
-        n[k] = p->part[k].len / buffers[k].size;
-}
-
-/* ---- one call: the answer, the four numbers, every byte of every buffer, and the file */
-
-/* Each buffer has its part at the front, and no other byte of it was written. */
-static void expect_parts(const struct parts *expected)
-{
-    size_t k;
-    for (k = 0; k < BUFFERS; k++) {
-        const struct bytes *part = &expected->part[k];
-        const struct fence *f = &lent_parts[k];
-        expect_unwritten(buffers[k].name, f->at - 64, 64);
-        expect(part->len <= f->len, "%s: accepted with %zu bytes for %zu", buffers[k].name, f->len, part->len);
-        if (part->len <= f->len) {
-            expect_bytes(buffers[k].name, f->at, part->at, part->len);
-            expect_unwritten(buffers[k].name, f->at + part->len, f->len - part->len);
-        }
-    }
-}
-
-static void expect_sizes(const char *what, uint32_t number, const struct parts *expected)
-{
-    if (number == VMD_OK)
-        expect_lent(what, &lent_sizes, expected->sizes, sizeof expected->sizes);
-    else
-        expect_lent_unwritten(what, &lent_sizes);
-}
-
-#define OUT_BYTES(k) (uint8_t *)p[k], n[k]
-#define OUT_NUMBERS(k) (uint32_t *)p[k], n[k]
-
-/* Buffers of these lengths. */
-static void split_into(const struct bytes *file, const size_t n[BUFFERS], uint32_t number, const struct parts *expected)
-{
-    const uint8_t *f = lend(&lent_file, file->at, file->len);
-    void *p[BUFFERS];
-    uint32_t got;
-    size_t k;
-    for (k = 0; k < BUFFERS; k++)
-        p[k] = lend_unwritten(&lent_parts[k], n[k] * buffers[k].size);
-    got = vmd_split_animation_into_parts(f, file->len, OUT_BYTES(0), OUT_NUMBERS(1), OUT_BYTES(2), OUT_NUMBERS(3),
-                                         OUT_BYTES(4), OUT_BYTES(5), OUT_BYTES(6), OUT_BYTES(7), OUT_NUMBERS(8),
-                                         OUT_NUMBERS(9), OUT_NUMBERS(10), OUT_NUMBERS(11), OUT_BYTES(12), OUT_NUMBERS(13),
-                                         OUT_NUMBERS(14), OUT_NUMBERS(15), lend_unwritten(&lent_sizes, 32));
-    expect_number("split", got, number);
-    expect_lent("file", &lent_file, file->at, file->len);
-    expect_sizes("sizes", number, expected);
-    if (number == VMD_OK)
-        expect_parts(expected);
-    else
-        for (k = 0; k < BUFFERS; k++)
-            expect_lent_unwritten(buffers[k].name, &lent_parts[k]);
-}
-
-static void sizes_of(const struct bytes *file, uint32_t number, const struct parts *expected)
-{
-    const uint8_t *f = lend(&lent_file, file->at, file->len);
-    expect_number("split_sizes", vmd_split_sizes(f, file->len, lend_unwritten(&lent_sizes, 32)), number);
-    expect_lent("file", &lent_file, file->at, file->len);
-    expect_sizes("split_sizes", number, expected);
-}
-
-/* A file that is to have these parts: in buffers that are just long enough, longer, and too short one at a time. */
-static void try_split(const struct bytes *file, const struct parts *expected)
-{
-    size_t exact[BUFFERS], n[BUFFERS], k, l;
-    lengths_of(expected, exact);
-    sizes_of(file, VMD_OK, expected);
-    split_into(file, exact, VMD_OK, expected);
-    for (k = 0; k < BUFFERS; k++)
-        n[k] = exact[k] + 1 + 7 * k % 5;
-    split_into(file, n, VMD_OK, expected);
-    /* tables for any names, both or one of them; then the names need no counting */
-    for (k = 1; k < 4; k++) {
-        memcpy(n, exact, sizeof n);
-        if (k & 1)
-            n[BONE_NAME_BYTES] = 15 * exact[BONE_INDICES], n[BONE_NAME_ENDS] = exact[BONE_INDICES];
-        if (k & 2)
-            n[MORPH_NAME_BYTES] = 15 * exact[MORPH_INDICES], n[MORPH_NAME_ENDS] = exact[MORPH_INDICES];
-        split_into(file, n, VMD_OK, expected);
-        for (l = 0; l < BUFFERS; l++)
-            if (l > MORPH_NAME_ENDS && exact[l] > 0) {
-                n[l] -= 1;
-                split_into(file, n, VMD_PARTS_DO_NOT_FIT, NULL);
-                n[l] += 1;
-            }
-    }
-    for (k = 0; k < BUFFERS; k++) {
-        memcpy(n, exact, sizeof n);
-        n[k] += 9;
-        split_into(file, n, VMD_OK, expected);
-        if (exact[k] == 0)
-            continue;
-        n[k] = exact[k] - 1;
-        split_into(file, n, VMD_PARTS_DO_NOT_FIT, NULL);
-        n[k] = 0;
-        split_into(file, n, VMD_PARTS_DO_NOT_FIT, NULL);
-        for (l = 0; l < BUFFERS; l++)
-            n[l] = exact[l] + 40;
-        n[k] = exact[k] - 1;
-        split_into(file, n, VMD_PARTS_DO_NOT_FIT, NULL);
-    }
-}
-
-/* The file cannot be read: so it is refused, whether the buffers are long or have no elements. */
-static void try_refused(const struct bytes *file, uint32_t number)
-{
-    static const size_t none[BUFFERS];
-    size_t n[BUFFERS], k;
-    for (k = 0; k < BUFFERS; k++)
-        n[k] = 1000;
-    sizes_of(file, number, NULL);
-    split_into(file, n, number, NULL);
-    split_into(file, none, number, NULL);
-}
+static struct fence lent_out, lent_slot;
 
 /* ---- building from the memory that the call has written, which the builder reads as it is */
 
 /* The answer is the builder's; where that is 0, what it gives is the file's export and these bytes. */
-static void build_back(const struct bytes *file, const struct parts *expected, uint32_t number, const struct bytes *canonical)
+static void build_back_in(enum manner m, const struct bytes *file, const struct parts *expected, uint32_t number,
+                          const struct bytes *canonical)
 {
     struct slice s[SLICES];
     const void *p[SLICES];
@@ -248,7 +28,7 @@ static void build_back(const struct bytes *file, const struct parts *expected, u
     lengths_of(expected, n);
     for (k = 0; k < BUFFERS; k++)
         n[k] += 5;
-    split_into(file, n, VMD_OK, expected);
+    split_into(m, file, n, VMD_OK, expected);
     lengths_of(expected, n);
     vmd_model_name(file->at, file->len, part);
     p[0] = file->at + part[0];
@@ -267,9 +47,17 @@ static void build_back(const struct bytes *file, const struct parts *expected, u
     }
     expect_lent("built file", &lent_out, canonical->at, canonical->len);
     expect_lent("written", &lent_slot, &written, sizeof written);
-    expect_number("export", vmd_export_animation(file->at, file->len, exported.at, sizeof exported.at, &len), VMD_OK);
+    expect_opens_alike(lent_out.at, lent_out.len);
+    expect_number("export", export_in(m, file->at, file->len, exported.at, sizeof exported.at, &len), VMD_OK);
     expect_number("export's length", len, canonical->len);
     expect_bytes("export", exported.at, canonical->at, canonical->len);
+}
+
+static void build_back(const struct bytes *file, const struct parts *expected, uint32_t number, const struct bytes *canonical)
+{
+    enum manner m;
+    for (m = STRICT; m < MANNERS; m++)
+        build_back_in(m, file, expected, number, canonical);
 }
 
 /* ---- takes */
@@ -278,17 +66,17 @@ static struct parts expected;
 static struct bytes file, canonical;
 
 /* In each edition that can hold its model name: the parts are the same. The newer one is last, and stays in file. */
-static void try_take(const char *name, const struct take *t, enum manner manner)
+static void try_take(const char *name, const struct take *t, enum form form)
 {
     parts_of(&expected, t);
     if (t->model.len <= editions[OLDER].model_width) {
         trial("%s, older edition", name);
-        encode_in(&file, OLDER, t, manner);
-        try_split(&file, &expected);
+        encode_in(&file, OLDER, t, form);
+        try_split(&file, alike(VMD_OK), &expected);
     }
     trial("%s", name);
-    encode(&file, t, manner);
-    try_split(&file, &expected);
+    encode(&file, t, form);
+    try_split(&file, alike(VMD_OK), &expected);
 }
 
 /* All that the builder asks of names, floats and modes. */
@@ -323,14 +111,15 @@ static struct take good_take(void)
 /* Of a file with no records no buffer needs to be there. */
 static void null_buffers(const struct bytes *file, const struct parts *expected)
 {
-    uint32_t got;
-    const uint8_t *f = lend(&lent_file, file->at, file->len);
-    got = vmd_split_animation_into_parts(f, file->len, NULL, 0, NULL, 0, NULL, 0, NULL, 0, NULL, 0, NULL, 0, NULL, 0, NULL, 0,
-                                         NULL, 0, NULL, 0, NULL, 0, NULL, 0, NULL, 0, NULL, 0, NULL, 0, NULL, 0,
-                                         lend_unwritten(&lent_sizes, 32));
-    expect_number("split", got, VMD_OK);
-    expect_lent("file", &lent_file, file->at, file->len);
-    expect_sizes("sizes", VMD_OK, expected);
+    static void *const null[BUFFERS];
+    static const size_t none[BUFFERS];
+    enum manner m;
+    for (m = STRICT; m < MANNERS; m++) {
+        const uint8_t *f = lend(&lent_file, file->at, file->len);
+        expect_number("split", split_in(m, f, file->len, null, none, lend_unwritten(&lent_sizes, 32)), VMD_OK);
+        expect_lent("file", &lent_file, file->at, file->len);
+        expect_sizes("sizes", VMD_OK, expected);
+    }
 }
 
 static void takes(void)
@@ -339,13 +128,13 @@ static void takes(void)
     try_take("the empty take", &t, CANONICAL);
     trial("start,0");
     file.len = 54;
-    try_split(&file, &expected);
+    try_split(&file, alike(VMD_OK), &expected);
     trial("start,0 into null buffers");
     null_buffers(&file, &expected);
     encode_in(&file, OLDER, &t, CANONICAL);
     trial("start,0 of the older edition");
     file.len = 44;
-    try_split(&file, &expected);
+    try_split(&file, alike(VMD_OK), &expected);
     null_buffers(&file, &expected);
     t = distinct_take(20, 0, 0, 0, 0, 0, 0);
     try_take("a model name and no records", &t, RAW);
@@ -434,14 +223,13 @@ static void builds(void)
 /* Every float of a record is each odd one in turn; in the columns it keeps its bits. */
 static void odd_floats_anywhere(void)
 {
-    size_t from, n[BUFFERS];
+    size_t from;
     for (from = 0; from < ODD; from++) {
         struct take t = odd_floats_take(from);
         trial("odd floats from the %zuth on", from);
         encode(&file, &t, RAW);
         parts_of(&expected, &t);
-        lengths_of(&expected, n);
-        split_into(&file, n, VMD_OK, &expected);
+        try_split_briefly(&file, alike(VMD_OK), &expected);
     }
 }
 
@@ -461,7 +249,7 @@ static void flags(void)
     }
     try_take("flags of any value", &t, RAW);
     lengths_of(&expected, n);
-    split_into(&file, n, VMD_OK, &expected);
+    split_into(STRICT, &file, n, VMD_OK, &expected);
     camera = lent_parts[CAMERAS].at;
     property = lent_parts[PROPERTIES].at;
     expect_number("bytes of property frames", n[PROPERTIES], 5 * (9 + 21));
@@ -480,6 +268,7 @@ static void flags(void)
 static void try_names(const char *what, const struct name *names, size_t n, int morphs, enum edition edition)
 {
     static struct take t;
+    static unsigned turn;
     size_t i, k;
     t = distinct_take(4, 0, 0, 1, 0, 0, 2);
     trial("%s: %zu %s, %s edition", what, n, morphs ? "morphs" : "bones", editions[edition].name);
@@ -515,7 +304,10 @@ static void try_names(const char *what, const struct name *names, size_t n, int 
         put_records(&file, &t, (int)k, RAW);
         put_records(&expected.part[CAMERAS + k - 2], &t, (int)k, CANONICAL);
     }
-    try_split(&file, &expected);
+    if (n < 100)
+        try_split(&file, alike(VMD_OK), &expected);
+    else /* many names take long: one manner and the other in turn */
+        try_split_in(turn++ % 2 ? STRICT : LENIENT, &file, VMD_OK, &expected);
 }
 
 /* Of bones, and of morphs; a few of them in an older file too. */
@@ -580,25 +372,21 @@ static void cut_anywhere(enum edition edition)
 {
     static struct opening o;
     struct take t = distinct_take(9, 2, 2, 2, 2, 2, 3);
-    size_t n, s;
+    size_t n;
     encode_in(&file, edition, &t, RAW);
     for (n = file.len; n-- > 0;) {
-        struct take cut = t;
-        uint32_t number;
-        size_t lengths[BUFFERS];
+        struct reading reads;
+        struct take left;
         file.len = n;
-        number = expected_opening(file.at, n, &o);
-        for (s = 0; s < SECTIONS; s++)
-            cut.counts[s] = o.counts[s];
+        reads = expected_reading(file.at, n, &o);
         trial("a file of the %s edition cut after %zu bytes", editions[edition].name, n);
-        if (number != VMD_OK) {
-            try_refused(&file, number);
+        if (reads.in[LENIENT] != VMD_OK) {
+            try_split_refused(&file, reads);
             continue;
         }
-        parts_of(&expected, &cut);
-        lengths_of(&expected, lengths);
-        sizes_of(&file, VMD_OK, &expected);
-        split_into(&file, lengths, VMD_OK, &expected);
+        left = left_of(&t, &o);
+        parts_of(&expected, &left);
+        try_split_briefly(&file, reads, &expected);
     }
 }
 
@@ -611,23 +399,23 @@ static void other_counts(enum edition edition)
     for (s = 0; s < SECTIONS; s++) {
         struct take means = t;
         encode_in(&file, edition, &t, RAW);
-        expected_opening(file.at, file.len, &o);
-        memset(file.at + o.places[s] - 4, 0xFF, 4);
+        expected_opening(STRICT, file.at, file.len, &o);
+        set_u32(&file, o.places[s] - 4, 0xFFFFFFFF);
         trial("a count of section %zu that is too large, %s edition", s, editions[edition].name);
         if (s < 2 || s == 5) {
-            try_refused(&file, VMD_ENDS_EARLY);
+            try_split_refused(&file, alike(VMD_ENDS_EARLY));
             continue;
         }
         for (k = s; k < SECTIONS; k++)
             means.counts[k] = 0;
         parts_of(&expected, &means);
-        try_split(&file, &expected);
+        try_split(&file, reading(VMD_COUNT_OVERSIZED, VMD_OK), &expected);
     }
     trial("bytes after the last property frame, %s edition", editions[edition].name);
     encode_in(&file, edition, &t, RAW);
     put(&file, file.at, 50);
     parts_of(&expected, &t);
-    try_split(&file, &expected);
+    try_split(&file, reading(VMD_BYTES_OVER, VMD_OK), &expected);
 }
 
 static void refusals(enum edition edition)
@@ -636,14 +424,14 @@ static void refusals(enum edition edition)
     encode_in(&file, edition, &t, RAW);
     trial("a file of the %s edition whose last byte is missing", editions[edition].name);
     file.len -= 1;
-    try_refused(&file, VMD_ENDS_EARLY);
+    try_split_refused(&file, alike(VMD_ENDS_EARLY));
     trial("another magic");
     file.len += 1;
     file.at[0] = 'v';
-    try_refused(&file, VMD_MAGIC_DIFFERS);
+    try_split_refused(&file, alike(VMD_MAGIC_DIFFERS));
     trial("no bytes at all");
     file.len = 0;
-    try_refused(&file, VMD_ENDS_EARLY);
+    try_split_refused(&file, alike(VMD_ENDS_EARLY));
 }
 
 /* More records of each kind than one byte can count. */
@@ -651,14 +439,15 @@ static void many_records(enum edition edition)
 {
     struct take t = distinct_take(3, 5, 6, 5, 6, 7, 8);
     size_t n[BUFFERS];
+    enum manner m;
     trial("60 times the records of a take, %s edition", editions[edition].name);
     encode_times_in(&file, edition, &t, 60, RAW);
     parts_of_times(&expected, &t, 60);
+    try_split_briefly(&file, alike(VMD_OK), &expected);
     lengths_of(&expected, n);
-    sizes_of(&file, VMD_OK, &expected);
-    split_into(&file, n, VMD_OK, &expected);
     n[WEIGHTS] -= 1;
-    split_into(&file, n, VMD_PARTS_DO_NOT_FIT, NULL);
+    for (m = STRICT; m < MANNERS; m++)
+        split_into(m, &file, n, VMD_PARTS_DO_NOT_FIT, NULL);
 }
 
 int main(void)

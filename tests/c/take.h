@@ -1,7 +1,7 @@
 /*
  * Takes, and an encoder of them written from the layouts, so that expected bytes never come from the library.
  *
- * A struct take is what a file means; flags are the bytes that a file has. It is encoded in two manners: CANONICAL, as the
+ * A struct take is what a file means; flags are the bytes that a file has. It is encoded in two forms: CANONICAL, as the
  * library has to write it, and RAW, as other programs may: bytes after a name's zero, flags of any value, anything in bytes
  * 26 to 29. And in two editions, which differ in the magic and in the model name's width.
  */
@@ -50,6 +50,15 @@ static inline void put_u32s(struct bytes *b, const uint32_t *values, size_t n)
     size_t i;
     for (i = 0; i < n; i++)
         put_u32(b, values[i]);
+}
+
+/* Over what stands there. */
+static inline void set_u32(struct bytes *b, size_t at, uint32_t value)
+{
+    size_t len = b->len;
+    b->len = at;
+    put_u32(b, value);
+    b->len = len;
 }
 
 static inline uint32_t u32_at(const uint8_t *at)
@@ -179,19 +188,19 @@ static inline struct take joined(const struct take *first, const struct take *se
 
 /* ---- the encoder */
 
-enum manner { CANONICAL, RAW };
+enum form { CANONICAL, RAW };
 
-static inline void put_name(struct bytes *b, const struct name *n, size_t width, enum manner manner)
+static inline void put_name(struct bytes *b, const struct name *n, size_t width, enum form form)
 {
     size_t i;
     put(b, n->at, n->len);
     for (i = n->len; i < width; i++)
-        put_byte(b, manner == CANONICAL || i == n->len ? 0 : 0xF0 + (i & 15));
+        put_byte(b, form == CANONICAL || i == n->len ? 0 : 0xF0 + (i & 15));
 }
 
-static inline void put_flag(struct bytes *b, unsigned value, enum manner manner)
+static inline void put_flag(struct bytes *b, unsigned value, enum form form)
 {
-    put_byte(b, manner == CANONICAL ? value != 0 : value);
+    put_byte(b, form == CANONICAL ? value != 0 : value);
 }
 
 enum edition { NEWER, OLDER, EDITIONS };
@@ -211,45 +220,45 @@ static const struct {
 enum { NARROWER = 10 };
 
 /* The magic and the model name. */
-static inline void put_header_of(struct bytes *b, enum edition edition, const struct name *model, enum manner manner)
+static inline void put_header_of(struct bytes *b, enum edition edition, const struct name *model, enum form form)
 {
     if (model->len > editions[edition].model_width) {
         fprintf(stderr, "the test's own model name is too long\n");
         exit(2);
     }
     put(b, editions[edition].magic, MAGIC_TOLD);
-    put_u32(b, manner == CANONICAL ? 0 : 0xEFBEADDE);
-    put_name(b, model, editions[edition].model_width, manner);
+    put_u32(b, form == CANONICAL ? 0 : 0xEFBEADDE);
+    put_name(b, model, editions[edition].model_width, form);
 }
 
-static inline void put_header(struct bytes *b, const struct name *model, enum manner manner)
+static inline void put_header(struct bytes *b, const struct name *model, enum form form)
 {
-    put_header_of(b, NEWER, model, manner);
+    put_header_of(b, NEWER, model, form);
 }
 
-static inline void put_bone(struct bytes *b, const struct bone *r, enum manner manner)
+static inline void put_bone(struct bytes *b, const struct bone *r, enum form form)
 {
-    put_name(b, &r->name, 15, manner);
+    put_name(b, &r->name, 15, form);
     put_u32(b, r->frame);
     put_u32s(b, r->floats, 7);
     put(b, r->interpolation, 64);
 }
 
-static inline void put_morph(struct bytes *b, const struct morph *r, enum manner manner)
+static inline void put_morph(struct bytes *b, const struct morph *r, enum form form)
 {
-    put_name(b, &r->name, 15, manner);
+    put_name(b, &r->name, 15, form);
     put_u32(b, r->frame);
     put_u32(b, r->weight);
 }
 
 /* Perspective is on where the byte is 0: it is written as 0, and any other as 1. */
-static inline void put_camera(struct bytes *b, const struct camera *r, enum manner manner)
+static inline void put_camera(struct bytes *b, const struct camera *r, enum form form)
 {
     put_u32(b, r->frame);
     put_u32s(b, r->floats, 7);
     put(b, r->interpolation, 24);
     put_u32(b, r->field_of_view);
-    put_flag(b, r->perspective, manner);
+    put_flag(b, r->perspective, form);
 }
 
 static inline void put_light(struct bytes *b, const struct light *r)
@@ -265,65 +274,65 @@ static inline void put_self_shadow(struct bytes *b, const struct self_shadow *r)
     put_u32(b, r->distance);
 }
 
-static inline void put_property(struct bytes *b, const struct property *r, enum manner manner)
+static inline void put_property(struct bytes *b, const struct property *r, enum form form)
 {
     size_t j;
     put_u32(b, r->frame);
-    put_flag(b, r->visible, manner);
+    put_flag(b, r->visible, form);
     put_u32(b, (uint32_t)r->n_states);
     for (j = 0; j < r->n_states; j++) {
-        put_name(b, &r->states[j].name, 20, manner);
-        put_flag(b, r->states[j].enabled, manner);
+        put_name(b, &r->states[j].name, 20, form);
+        put_flag(b, r->states[j].enabled, form);
     }
 }
 
-static inline void put_record(struct bytes *b, const struct take *t, int section, size_t i, enum manner manner)
+static inline void put_record(struct bytes *b, const struct take *t, int section, size_t i, enum form form)
 {
     switch (section) {
-    case 0: put_bone(b, &t->bones[i], manner); break;
-    case 1: put_morph(b, &t->morphs[i], manner); break;
-    case 2: put_camera(b, &t->cameras[i], manner); break;
+    case 0: put_bone(b, &t->bones[i], form); break;
+    case 1: put_morph(b, &t->morphs[i], form); break;
+    case 2: put_camera(b, &t->cameras[i], form); break;
     case 3: put_light(b, &t->lights[i]); break;
     case 4: put_self_shadow(b, &t->self_shadows[i]); break;
-    case 5: put_property(b, &t->properties[i], manner); break;
+    case 5: put_property(b, &t->properties[i], form); break;
     }
 }
 
-static inline void put_records(struct bytes *b, const struct take *t, int section, enum manner manner)
+static inline void put_records(struct bytes *b, const struct take *t, int section, enum form form)
 {
     size_t i;
     for (i = 0; i < t->counts[section]; i++)
-        put_record(b, t, section, i, manner);
+        put_record(b, t, section, i, form);
 }
 
 /* The file whose every section has the take's records so many times over. */
 static inline void encode_times_in(struct bytes *b, enum edition edition, const struct take *t, size_t times,
-                                   enum manner manner)
+                                   enum form form)
 {
     size_t n;
     int s;
     b->len = 0;
-    put_header_of(b, edition, &t->model, manner);
+    put_header_of(b, edition, &t->model, form);
     for (s = 0; s < SECTIONS; s++) {
         put_u32(b, (uint32_t)(times * t->counts[s]));
         for (n = 0; n < times; n++)
-            put_records(b, t, s, manner);
+            put_records(b, t, s, form);
     }
 }
 
-static inline void encode_times(struct bytes *b, const struct take *t, size_t times, enum manner manner)
+static inline void encode_times(struct bytes *b, const struct take *t, size_t times, enum form form)
 {
-    encode_times_in(b, NEWER, t, times, manner);
+    encode_times_in(b, NEWER, t, times, form);
 }
 
-static inline void encode_in(struct bytes *b, enum edition edition, const struct take *t, enum manner manner)
+static inline void encode_in(struct bytes *b, enum edition edition, const struct take *t, enum form form)
 {
-    encode_times_in(b, edition, t, 1, manner);
+    encode_times_in(b, edition, t, 1, form);
 }
 
-static inline void encode(struct bytes *b, const struct take *t, enum manner manner)
+static inline void encode(struct bytes *b, const struct take *t, enum form form)
 {
-    encode_in(b, NEWER, t, manner);
+    encode_in(b, NEWER, t, form);
 }
 
 /* What an older file has to be read as: the newer magic, its 10 name bytes and 10 zeros, and all that follows them. */
@@ -485,6 +494,20 @@ static inline struct take leg_take(void)
             t.properties[i].states[j].enabled = enabled[i][j];
         }
     }
+    return t;
+}
+
+/* Few names and two frames, the larger one first: tidying drops records of each section, and puts others before others. */
+static inline struct take crowded_take(size_t model_len, size_t properties)
+{
+    struct take t = distinct_take(model_len, 4, 4, 3, 3, 3, properties);
+    size_t i;
+    int s;
+    for (s = 0; s < SECTIONS; s++)
+        for (i = 0; i < t.counts[s]; i++)
+            *frame_of(&t, s, i) = 7 - (uint32_t)(i % 2);
+    for (i = 0; i < 4; i++)
+        t.bones[i].name = t.morphs[i].name = named(i == 1 ? "b" : "a");
     return t;
 }
 

@@ -1,61 +1,20 @@
 /*
- * Tidying, through the C interface: every byte of every output, every place of the scratch and every slot, in refusals too,
- * against an order of records that the test finds from request g)'s words.
+ * Tidying, through the C interface, in both manners: every byte of every output, every place of the scratch and every slot,
+ * in refusals too, against an order of records that the test finds from request g)'s words.
  *
  * Not tried: 13 where no 64-bit length could hold the file.
  */
 #include "check.h"
+#include "damaged.h"
 #include "expect.h"
+#include "open.h"
 #include "random.h"
+#include "tidy.h"
 #include "vmd.h"
 
 #include <ucontext.h>
 
-/* ---- what is expected: which records are kept, and in which order */
-
-/* What decides about a record. A track is known by its first record's number: tracks come in order of first appearance. */
-struct key {
-    size_t track;
-    uint32_t frame;
-};
-
-static int same_key(const struct key *a, const struct key *b)
-{
-    return a->track == b->track && a->frame == b->frame;
-}
-
-static int goes_before(const struct key *a, const struct key *b)
-{
-    return a->track != b->track ? a->track < b->track : a->frame < b->frame;
-}
-
-/* "Dropped records are those with a later record of the same track and frame." */
-static int is_dropped(const struct key *keys, size_t n, size_t i)
-{
-    size_t j;
-    for (j = i + 1; j < n; j++)
-        if (same_key(&keys[j], &keys[i]))
-            return 1;
-    return 0;
-}
-
-/* The numbers of the kept records as they are to be written, and how many they are. No two of them have the same key. */
-static size_t tidy_order(const struct key *keys, size_t n, size_t *order)
-{
-    uint8_t dropped[MOST_PROPERTIES];
-    size_t i, j, place, kept = 0;
-    for (i = 0; i < n; i++)
-        dropped[i] = (uint8_t)is_dropped(keys, n, i);
-    for (i = 0; i < n; i++) {
-        if (dropped[i])
-            continue;
-        for (place = 0, j = 0; j < n; j++)
-            place += !dropped[j] && goes_before(&keys[j], &keys[i]);
-        order[place] = i;
-        kept++;
-    }
-    return kept;
-}
+/* ---- the order of many records */
 
 static const struct key *sorted_keys;
 
@@ -67,7 +26,7 @@ static int by_key_and_number(const void *a, const void *b)
     return goes_before(&sorted_keys[i], &sorted_keys[j]) ? -1 : 1;
 }
 
-/* The same for many records: all of them sorted, and of equal keys the last one. */
+/* What tidy_order gives, for many records: all of them sorted, and of equal keys the last one. */
 static size_t tidy_order_of_many(const struct key *keys, size_t n, size_t *order)
 {
     size_t i, kept = 0;
@@ -81,224 +40,7 @@ static size_t tidy_order_of_many(const struct key *keys, size_t n, size_t *order
     return kept;
 }
 
-/* ---- one call: the answer, the slots, every place of the scratch, every byte of the output, and the file */
-
-enum { MOST_RECORDS = 53000, MOST_PLACES = MOST_RECORDS + 8 };
-
-struct input {
-    const uint8_t *at;
-    size_t len;
-};
-
-/* What tidying a file has to give. */
-struct tidied {
-    struct input file;
-    size_t exported; /* the export's length */
-    size_t places;   /* records of the largest section */
-    uint32_t kept[SECTIONS], dropped[SECTIONS];
-};
-
-static struct fence lent_file, lent_scratch, lent_out, lent_slot, lent_kept, lent_dropped;
-static uint64_t stood[MOST_PLACES]; /* in the scratch before the call */
-
-/* Any numbers, many of them such as a record or a place of the file could have. */
-static uint64_t *lend_scratch(size_t places)
-{
-    size_t k;
-    if (places > MOST_PLACES) {
-        fprintf(stderr, "%s: %zu places do not fit the test's scratch\n", trying, places);
-        exit(2);
-    }
-    for (k = 0; k < places; k++)
-        stood[k] = random_below(2) ? 1 + random_below(2000) : random_u64() | 1;
-    return lend(&lent_scratch, stood, places * sizeof *stood);
-}
-
-static void expect_slots(uint64_t length, const struct tidied *expected)
-{
-    expect_lent("length", &lent_slot, &length, sizeof length);
-    expect_lent("kept", &lent_kept, expected->kept, sizeof expected->kept);
-    expect_lent("dropped", &lent_dropped, expected->dropped, sizeof expected->dropped);
-}
-
-static void expect_slots_unwritten(void)
-{
-    expect_lent_unwritten("length", &lent_slot);
-    expect_lent_unwritten("kept", &lent_kept);
-    expect_lent_unwritten("dropped", &lent_dropped);
-}
-
-/* After success: zeros in as many places, the others as they were. After a refusal all of them are. */
-static void expect_scratch(size_t places, size_t zeros)
-{
-    memset(stood, 0, zeros * sizeof *stood);
-    expect_lent("scratch", &lent_scratch, stood, places * sizeof *stood);
-}
-
-static void expect_file_in_out(const struct input *file)
-{
-    expect_unwritten("before the output", lent_out.at - 64, 64);
-    expect(file->len <= lent_out.len, "accepted with %zu bytes for %zu", lent_out.len, file->len);
-    if (file->len <= lent_out.len) {
-        expect_bytes("output", lent_out.at, file->at, file->len);
-        expect_unwritten("output past the file", lent_out.at + file->len, lent_out.len - file->len);
-    }
-}
-
-/* With a scratch of so many places, into an output of so many bytes. */
-static void tidy_with(const struct input *file, size_t places, size_t out_len, uint32_t number,
-                      const struct tidied *expected)
-{
-    const uint8_t *f = lend(&lent_file, file->at, file->len);
-    uint64_t *scratch = lend_scratch(places), *written = lend_unwritten(&lent_slot, sizeof *written);
-    uint8_t *out = lend_unwritten(&lent_out, out_len);
-    uint32_t *kept = lend_unwritten(&lent_kept, SECTIONS * sizeof *kept);
-    uint32_t *dropped = lend_unwritten(&lent_dropped, SECTIONS * sizeof *dropped);
-
-    expect_number("tidy_animation",
-                  vmd_tidy_animation(f, file->len, scratch, places, out, out_len, written, kept, dropped), number);
-    expect_lent("file", &lent_file, file->at, file->len);
-    if (number == VMD_OK) {
-        expect_slots(expected->file.len, expected);
-        expect_file_in_out(&expected->file);
-    } else {
-        expect_slots_unwritten();
-        expect_lent_unwritten("output", &lent_out);
-    }
-    expect_scratch(places, number == VMD_OK ? expected->places : 0);
-}
-
-static void size_with(const struct input *file, size_t places, uint32_t number, const struct tidied *expected)
-{
-    const uint8_t *f = lend(&lent_file, file->at, file->len);
-    uint64_t *scratch = lend_scratch(places), *size = lend_unwritten(&lent_slot, sizeof *size);
-    uint32_t *kept = lend_unwritten(&lent_kept, SECTIONS * sizeof *kept);
-    uint32_t *dropped = lend_unwritten(&lent_dropped, SECTIONS * sizeof *dropped);
-
-    expect_number("tidy_size", vmd_tidy_size(f, file->len, scratch, places, size, kept, dropped), number);
-    expect_lent("file", &lent_file, file->at, file->len);
-    if (number == VMD_OK)
-        expect_slots(expected->file.len, expected);
-    else
-        expect_slots_unwritten();
-    expect_scratch(places, number == VMD_OK ? expected->places : 0);
-}
-
-/* A scratch that is too short is 3, whether the output is long enough or not. */
-static void try_short_scratch(const struct input *file, size_t places, const struct tidied *expected)
-{
-    size_with(file, places, VMD_SCRATCH_TOO_SHORT, NULL);
-    tidy_with(file, places, expected->exported + 100, VMD_SCRATCH_TOO_SHORT, NULL);
-    tidy_with(file, places, expected->file.len, VMD_SCRATCH_TOO_SHORT, NULL);
-    tidy_with(file, places, expected->file.len - 1, VMD_SCRATCH_TOO_SHORT, NULL);
-    tidy_with(file, places, 0, VMD_SCRATCH_TOO_SHORT, NULL);
-}
-
-/* What the header promises of any file. */
-static void expect_enough(const struct input *file, const struct tidied *expected)
-{
-    expect(expected->places <= file->len / 9, "%zu places, and %zu bytes", expected->places, file->len);
-    expect(expected->file.len <= expected->exported, "%zu bytes, and %zu", expected->file.len, expected->exported);
-}
-
-/* Scratches and outputs that are just long enough, longer, too short, and not there. */
-static void try_tidy(const struct input *file, const struct tidied *expected)
-{
-    size_t len = expected->file.len, exported = expected->exported, places = expected->places;
-    expect_enough(file, expected);
-    size_with(file, places, VMD_OK, expected);
-    size_with(file, places + 5, VMD_OK, expected);
-    tidy_with(file, places, len, VMD_OK, expected);
-    tidy_with(file, places + 1, len + 1, VMD_OK, expected);
-    tidy_with(file, places, exported, VMD_OK, expected);
-    tidy_with(file, places + 5, exported + 100, VMD_OK, expected);
-    if (len < exported)
-        tidy_with(file, places, exported - 1, VMD_OK, expected);
-    tidy_with(file, places, len - 1, VMD_OUTPUT_TOO_SHORT, NULL);
-    tidy_with(file, places + 5, len - 1, VMD_OUTPUT_TOO_SHORT, NULL);
-    tidy_with(file, places, 0, VMD_OUTPUT_TOO_SHORT, NULL);
-    if (places > 0)
-        try_short_scratch(file, places - 1, expected);
-    if (places > 1)
-        try_short_scratch(file, 0, expected);
-}
-
-/* The file cannot be read: so it is refused, whatever else is long enough. */
-static void try_refused(const struct input *file, uint32_t number)
-{
-    size_t places, k;
-    static const size_t lengths[3] = {0, 73, 4096};
-    for (places = 0; places < 20; places += 19) {
-        size_with(file, places, number, NULL);
-        for (k = 0; k < 3; k++)
-            tidy_with(file, places, lengths[k], number, NULL);
-    }
-}
-
 /* ---- takes */
-
-static int same_name(const struct name *a, const struct name *b)
-{
-    return a->len == b->len && memcmp(a->at, b->at, a->len) == 0;
-}
-
-static const struct name *track_name(const struct take *t, int section, size_t i)
-{
-    return section == VMD_BONES ? &t->bones[i].name : &t->morphs[i].name;
-}
-
-/* "Bone and morph tracks are the records of one name [..]; each other section is one track." */
-static size_t track_of(const struct take *t, int section, size_t i)
-{
-    size_t first = 0;
-    if (section == VMD_BONES || section == VMD_MORPHS)
-        while (!same_name(track_name(t, section, first), track_name(t, section, i)))
-            first++;
-    return first;
-}
-
-static size_t order_of(struct take *t, int section, size_t *order)
-{
-    struct key keys[MOST_PROPERTIES];
-    size_t i, n = t->counts[section];
-    for (i = 0; i < n; i++) {
-        keys[i].track = track_of(t, section, i);
-        keys[i].frame = *frame_of(t, section, i);
-    }
-    return tidy_order(keys, n, order);
-}
-
-/* The tidied file of a take, which stays in these bytes. */
-static struct tidied tidied_take(struct take *t, struct bytes *to)
-{
-    struct tidied expected;
-    size_t order[MOST_PROPERTIES], kept, k;
-    int s;
-    memset(&expected, 0, sizeof expected);
-    to->len = 0;
-    put_header(to, &t->model, CANONICAL);
-    for (s = 0; s < SECTIONS; s++) {
-        kept = order_of(t, s, order);
-        put_u32(to, (uint32_t)kept);
-        for (k = 0; k < kept; k++)
-            put_record(to, t, s, order[k], CANONICAL);
-        expected.kept[s] = (uint32_t)kept;
-        expected.dropped[s] = (uint32_t)(t->counts[s] - kept);
-        expected.places = larger(expected.places, t->counts[s]);
-    }
-    expected.file.at = to->at;
-    expected.file.len = to->len;
-    expected.exported = canonical_size(t);
-    return expected;
-}
-
-static struct input input_of(const struct bytes *file)
-{
-    struct input in;
-    in.at = file->at;
-    in.len = file->len;
-    return in;
-}
 
 /* Any bytes after a name's zero, which are no part of it. */
 static void stir(uint8_t *field, size_t width)
@@ -315,7 +57,7 @@ static void stir_names(struct bytes *file)
     static struct opening o;
     size_t i, j;
     int s;
-    if (expected_opening(file->at, file->len, &o) != VMD_OK)
+    if (expected_opening(LENIENT, file->at, file->len, &o) != VMD_OK)
         return;
     for (s = VMD_BONES; s <= VMD_MORPHS; s++)
         for (i = 0; i < o.counts[s]; i++)
@@ -328,7 +70,7 @@ static void stir_names(struct bytes *file)
 static struct bytes file, expected_bytes;
 
 /* In each edition that can hold its model name. The newer one is last, and stays in file. */
-static void try_take(const char *name, struct take *t, enum manner manner)
+static void try_take(const char *name, struct take *t, enum form form)
 {
     struct tidied expected = tidied_take(t, &expected_bytes);
     int edition;
@@ -337,11 +79,11 @@ static void try_take(const char *name, struct take *t, enum manner manner)
         if (t->model.len > editions[edition].model_width)
             continue;
         trial("%s, %s edition", name, editions[edition].name);
-        encode_in(&file, (enum edition)edition, t, manner);
-        if (manner == RAW)
+        encode_in(&file, (enum edition)edition, t, form);
+        if (form == RAW)
             stir_names(&file);
         in = input_of(&file);
-        try_tidy(&in, &expected);
+        try_tidy(&in, alike(VMD_OK), &expected);
     }
 }
 
@@ -535,42 +277,26 @@ static void other_takes(void)
 
 /* ---- files as others write them, and files that are refused */
 
-/* What is left of a take in a damaged file: the first records of each section are still the take's. */
+/* Of a file that was a take's before it was damaged. */
 static void try_damaged(const struct take *t)
 {
     static struct opening o;
     struct input in = input_of(&file);
-    struct take left = *t;
+    struct reading reads = expected_reading(file.at, file.len, &o);
     struct tidied expected;
-    uint32_t number = expected_opening(file.at, file.len, &o);
-    size_t s;
-    if (number != VMD_OK) {
-        try_refused(&in, number);
+    struct take left;
+    if (reads.in[LENIENT] != VMD_OK) {
+        try_tidy_refused(&in, reads);
         return;
     }
-    for (s = 0; s < SECTIONS; s++)
-        left.counts[s] = o.counts[s];
+    left = left_of(t, &o);
     expected = tidied_take(&left, &expected_bytes);
-    try_tidy(&in, &expected);
-}
-
-/* Records of each section of which some are dropped. */
-static struct take crowded_take(void)
-{
-    struct take t = distinct_take(9, 4, 4, 3, 3, 3, 4);
-    size_t i;
-    int s;
-    for (s = 0; s < SECTIONS; s++)
-        for (i = 0; i < t.counts[s]; i++)
-            *frame_of(&t, s, i) = 7 - (uint32_t)(i % 2);
-    for (i = 0; i < 4; i++)
-        t.bones[i].name = t.morphs[i].name = named(i == 1 ? "b" : "a");
-    return t;
+    try_tidy(&in, reads, &expected);
 }
 
 static void cut_anywhere(enum edition edition)
 {
-    struct take t = crowded_take();
+    struct take t = crowded_take(9, 4);
     size_t n;
     encode_in(&file, edition, &t, RAW);
     for (n = file.len; n-- > 0;) {
@@ -583,14 +309,14 @@ static void cut_anywhere(enum edition edition)
 /* A count that the rest of the file cannot hold, of each section; bytes over; another magic. */
 static void damaged(enum edition edition)
 {
-    struct take t = crowded_take();
+    struct take t = crowded_take(9, 4);
     static struct opening o;
     size_t n;
     for (n = 0; n < SECTIONS; n++) {
         trial("a count of section %zu that is too large, %s edition", n, editions[edition].name);
         encode_in(&file, edition, &t, RAW);
-        expected_opening(file.at, file.len, &o);
-        memset(file.at + o.places[n] - 4, 0xFF, 4);
+        expected_opening(STRICT, file.at, file.len, &o);
+        set_u32(&file, o.places[n] - 4, 0xFFFFFFFF);
         try_damaged(&t);
     }
     trial("bytes after the last property frame, %s edition", editions[edition].name);
@@ -603,27 +329,26 @@ static void damaged(enum edition edition)
         encode_in(&file, edition, &t, RAW);
         file.at[n] ^= 1;
         in = input_of(&file);
-        try_refused(&in, VMD_MAGIC_DIFFERS);
+        try_tidy_refused(&in, alike(VMD_MAGIC_DIFFERS));
     }
 }
 
 /* ---- laws */
 
-/* The call that a program makes, into room enough; the file that it writes. */
-static void tidy(const struct bytes *in, struct bytes *out, uint32_t kept[SECTIONS], uint32_t dropped[SECTIONS])
+/* The calls that a program makes, into room enough; the file that they write. */
+static void tidy(enum manner m, const struct bytes *in, struct bytes *out, uint32_t kept[SECTIONS],
+                 uint32_t dropped[SECTIONS])
 {
     uint64_t len = 0;
-    expect_number("tidy",
-                  vmd_tidy_animation(in->at, in->len, stood, MOST_PLACES, out->at, sizeof out->at, &len, kept, dropped),
+    expect_number("tidy", tidy_in(m, in->at, in->len, stood, MOST_PLACES, out->at, sizeof out->at, &len, kept, dropped),
                   VMD_OK);
     out->len = len;
 }
 
-static void join(const struct bytes *first, const struct bytes *second, struct bytes *out)
+static void join(enum manner m, const struct bytes *first, const struct bytes *second, struct bytes *out)
 {
     uint64_t len = 0;
-    expect_number("join", vmd_join_animations(first->at, first->len, second->at, second->len, out->at, sizeof out->at, &len),
-                  VMD_OK);
+    expect_number("join", join_in(m, first->at, first->len, second->at, second->len, out->at, sizeof out->at, &len), VMD_OK);
     out->len = len;
 }
 
@@ -635,46 +360,64 @@ static void expect_same_file(const char *what, const struct bytes *got, const st
 }
 
 /* Tidied twice it is the same, and nothing more is dropped. */
-static void tidied_twice(const struct bytes *once)
+static void tidied_twice(enum manner m, const struct bytes *once)
 {
     static struct bytes twice;
     static const uint32_t none[SECTIONS];
     uint32_t kept[SECTIONS], dropped[SECTIONS];
     static struct opening o;
-    expected_opening(once->at, once->len, &o);
-    tidy(once, &twice, kept, dropped);
+    expected_opening(m, once->at, once->len, &o);
+    tidy(m, once, &twice, kept, dropped);
     expect_same_file("tidied twice", &twice, once);
     expect_bytes("dropped the second time", dropped, none, sizeof none);
     expect_bytes("kept the second time", kept, o.counts, sizeof kept);
+    expect_opens_alike(once->at, once->len);
 }
 
-/* A join tidied, and the join of the two tidied ones tidied, both as the test's own order tells. */
+/* A file becomes one that only the lenient manner reads. */
+static void damage(struct sample *s)
+{
+    int section = VMD_CAMERAS + (int)random_below(4);
+    if (section == VMD_PROPERTIES)
+        put_over(s, 1 + random_below(40), OWN_BYTES);
+    else
+        oversize(s, section, 0xFFFFFFFF - (uint32_t)random_below(1000));
+}
+
+/*
+ * A join tidied, and the join of the two tidied ones tidied, both as the test's own order tells: in the one manner and the
+ * other in turn, over files that it accepts.
+ */
 static void laws(void)
 {
-    static struct bytes files[2], both, tidied[2], of_join, of_tidied;
+    static struct sample files[2];
+    static struct bytes both, tidied[2], of_join, of_tidied;
     uint32_t kept[SECTIONS], dropped[SECTIONS];
     size_t i, k, s;
     for (i = 0; i < 3000; i++) {
-        struct take t[2], whole;
+        enum manner m = i % 2 ? STRICT : LENIENT;
+        struct take whole;
         trial("random join %zu", i);
         for (k = 0; k < 2; k++) {
-            t[k] = any_take(MOST / 2);
-            encode_in(&files[k], t[k].model.len <= 10 && random_below(2) ? OLDER : NEWER, &t[k], RAW);
-            stir_names(&files[k]);
-            tidy(&files[k], &tidied[k], kept, dropped);
+            struct take t = any_take(MOST / 2);
+            make_whole(&files[k], t.model.len <= 10 && random_below(2) ? OLDER : NEWER, &t, RAW);
+            stir_names(&files[k].file);
+            if (m == LENIENT && random_below(2))
+                damage(&files[k]);
+            tidy(m, &files[k].file, &tidied[k], kept, dropped);
             for (s = 0; s < SECTIONS; s++)
-                expect_number("kept and dropped", (uint64_t)kept[s] + dropped[s], t[k].counts[s]);
-            tidied_twice(&tidied[k]);
+                expect_number("kept and dropped", (uint64_t)kept[s] + dropped[s], files[k].means.counts[s]);
+            tidied_twice(m, &tidied[k]);
         }
-        join(&files[0], &files[1], &both);
-        tidy(&both, &of_join, kept, dropped);
-        join(&tidied[0], &tidied[1], &both);
-        tidy(&both, &of_tidied, kept, dropped);
-        whole = joined(&t[0], &t[1]);
+        join(m, &files[0].file, &files[1].file, &both);
+        tidy(m, &both, &of_join, kept, dropped);
+        join(m, &tidied[0], &tidied[1], &both);
+        tidy(m, &both, &of_tidied, kept, dropped);
+        whole = joined(&files[0].means, &files[1].means);
         tidied_take(&whole, &expected_bytes);
         expect_same_file("the join tidied", &of_join, &expected_bytes);
         expect_same_file("the join of the two tidied, tidied", &of_tidied, &expected_bytes);
-        tidied_twice(&of_join);
+        tidied_twice(m, &of_join);
     }
 }
 
@@ -920,11 +663,11 @@ static void make_section(struct tidied *expected, struct take *t, int section, s
     expected->exported += canonical.len;
 }
 
-static void begin_file(struct large *to, enum edition edition, const struct name *model, enum manner manner)
+static void begin_file(struct large *to, enum edition edition, const struct name *model, enum form form)
 {
     static struct bytes header;
     header.len = 0;
-    put_header_of(&header, edition, model, manner);
+    put_header_of(&header, edition, model, form);
     to->len = 0;
     append(to, header.at, header.len);
 }
@@ -948,6 +691,13 @@ static struct tidied make_large(const size_t n[SECTIONS], shape key)
     return expected;
 }
 
+/* Large files take long: one manner and the other in turn, an odd number of calls for each file. */
+static enum manner in_turn(void)
+{
+    static unsigned turn;
+    return turn++ % 2 ? STRICT : LENIENT;
+}
+
 /* One byte short is the hard one: the kept records have to be counted, and nothing may have changed. */
 static void try_large(const struct tidied *expected)
 {
@@ -955,11 +705,12 @@ static void try_large(const struct tidied *expected)
     in.at = large_file.at;
     in.len = large_file.len;
     expect_enough(&in, expected);
-    size_with(&in, expected->places, VMD_OK, expected);
-    tidy_with(&in, expected->places, expected->file.len - 1, VMD_OUTPUT_TOO_SHORT, NULL);
-    tidy_with(&in, expected->places, expected->file.len, VMD_OK, expected);
-    tidy_with(&in, expected->places + 5, expected->exported + 1, VMD_OK, expected);
-    tidy_with(&in, expected->places - 1, expected->file.len - 1, VMD_SCRATCH_TOO_SHORT, NULL);
+    tidy_size_with(in_turn(), &in, expected->places, VMD_OK, expected);
+    tidy_with(in_turn(), &in, expected->places, expected->file.len - 1, VMD_OUTPUT_TOO_SHORT, NULL);
+    tidy_with(in_turn(), &in, expected->places, expected->file.len, VMD_OK, expected);
+    tidy_with(in_turn(), &in, expected->places + 5, expected->exported + 1, VMD_OK, expected);
+    tidy_with(in_turn(), &in, expected->places - 1, expected->file.len - 1, VMD_SCRATCH_TOO_SHORT, NULL);
+    expect_opens_alike(expected->file.at, expected->file.len);
 }
 
 static void try_section(const char *name, int section, size_t records, shape key)
@@ -1046,6 +797,7 @@ static void all_sections(void)
 enum { STACK = 1 << 20, STACK_TAKEN = 512 << 10 };
 
 static ucontext_t here, there;
+static enum manner called_in;
 static size_t called_out_len; /* 0 for the size alone */
 static uint32_t answer;
 
@@ -1054,9 +806,9 @@ static void call(void)
     uint64_t length;
     uint32_t kept[SECTIONS], dropped[SECTIONS];
     answer = called_out_len == 0
-        ? vmd_tidy_size(large_file.at, large_file.len, stood, MOST_PLACES, &length, kept, dropped)
-        : vmd_tidy_animation(large_file.at, large_file.len, stood, MOST_PLACES, canonical.at, called_out_len, &length, kept,
-                             dropped);
+        ? tidy_size_in(called_in, large_file.at, large_file.len, stood, MOST_PLACES, &length, kept, dropped)
+        : tidy_in(called_in, large_file.at, large_file.len, stood, MOST_PLACES, canonical.at, called_out_len, &length, kept,
+                  dropped);
 }
 
 static void call_on(uint8_t *stack)
@@ -1072,14 +824,16 @@ static void call_on(uint8_t *stack)
 /* On a stack of its own, in which every byte is known before. */
 static void try_stack(uint8_t *stack, size_t out_len, uint32_t number)
 {
-    size_t left = 0;
-    memset(stack, UNWRITTEN, STACK);
-    called_out_len = out_len;
-    call_on(stack);
-    while (left < STACK && stack[left] == UNWRITTEN)
-        left++;
-    expect_number("answer", answer, number);
-    expect(STACK - left <= STACK_TAKEN, "%zu bytes of stack", STACK - left);
+    for (called_in = STRICT; called_in < MANNERS; called_in++) {
+        size_t left = 0;
+        memset(stack, UNWRITTEN, STACK);
+        called_out_len = out_len;
+        call_on(stack);
+        while (left < STACK && stack[left] == UNWRITTEN)
+            left++;
+        expect_number("answer", answer, number);
+        expect(STACK - left <= STACK_TAKEN, "%zu bytes of stack", STACK - left);
+    }
 }
 
 static void stack_taken(void)

@@ -154,7 +154,75 @@ namespace model {
     X('h', PairNotIks, "pairs are not judged in IK names")                                                                   \
     X('h', PairNotBuilder, "pairs are judged by vmd_first_fault only")                                                       \
     X('h', PairNotAlone, "pairs are judged by the builder only")                                                             \
-    X('h', PairMarkPassed, "0xEF 0xBB 0xBF in front of a name is passed over")
+    X('h', PairMarkPassed, "0xEF 0xBB 0xBF in front of a name is passed over")                                               \
+    X('i', StrictCamerasEmptied, "an oversized camera count is emptied in the strict manner")                                \
+    X('i', StrictLightsEmptied, "an oversized light count is emptied in the strict manner")                                  \
+    X('i', StrictShadowsEmptied, "an oversized self-shadow count is emptied in the strict manner")                           \
+    X('i', StrictLargestEmptied, "a count of 4,294,967,295 is emptied in the strict manner")                                 \
+    X('i', StrictOneRecordMore, "one record more than there is room for is emptied in the strict manner")                    \
+    X('i', StrictOneByteShort, "records that miss one byte are emptied in the strict manner")                                \
+    X('i', StrictNothingBehind, "an oversized count at the file's end is emptied in the strict manner")                      \
+    X('i', StrictBonesAre17, "an oversized bone count is 17")                                                                \
+    X('i', StrictMorphsAre17, "an oversized morph count is 17")                                                              \
+    X('i', StrictPropertiesAre17, "an oversized property count is 17")                                                       \
+    X('i', StrictIksAre17, "property frames that the file ends in are 17")                                                   \
+    X('i', StrictCutCountIs17, "one to three bytes at a camera, light or self-shadow count are 17")                          \
+    X('i', StrictMissingRefused, "a missing section is 1 in the strict manner")                                              \
+    X('i', StrictOversizedIs1, "an oversized count is 1 in the strict manner")                                               \
+    X('i', StrictOverIs1, "bytes over are 1 in the strict manner")                                                           \
+    X('i', StrictNumbersSwapped, "16 and 17 are exchanged")                                                                  \
+    X('i', StrictOverAfterFrames, "bytes over are looked for only after property frames that are there")                     \
+    X('i', StrictOverAfterNone, "bytes over are looked for only after a property count of 0")                                \
+    X('i', StrictOneByteOver, "one byte over is ignored")                                                                    \
+    X('i', StrictThreeBytesOver, "one to three bytes over are ignored")                                                      \
+    X('i', StrictZeroByteOver, "one zero byte over is ignored")                                                              \
+    X('i', StrictZerosOver, "bytes over that are all zero are ignored")                                                      \
+    X('i', StrictOverBefore1, "16 is given before a 1 that is met in the property frames")                                   \
+    X('i', StrictOversizedBefore1, "16 and 17 are given before a 1 that is met at bones or morphs")                          \
+    X('i', StrictBefore2, "16 and 17 are given before 2")                                                                    \
+    X('i', OlderFilesLenient, "older files are read in the lenient manner")                                                  \
+    X('i', OlderFilesStrict, "older files are read in the strict manner")                                                    \
+    X('i', LenientLights17, "an oversized light count is 17 in the lenient manner too")                                      \
+    X('i', LenientOver16, "bytes over are 16 in the lenient manner too")                                                     \
+    X('i', StrictParseAfter3, "opening tests 16 and 17 after 3")                                                             \
+    X('i', StrictExportAfter13, "export tests 16 and 17 after 13")                                                           \
+    X('i', StrictOlderAfter15, "the converter tests 16 and 17 after 15")                                                     \
+    X('i', StrictOlderAfter13, "the converter tests 16 and 17 after 13")                                                     \
+    X('i', StrictJoinAfter13, "joining tests 16 and 17 after 13")                                                            \
+    X('i', StrictTidyAfter3, "tidying tests 16 and 17 after 3")                                                              \
+    X('i', StrictTidyAfter13, "tidying tests 16 and 17 after 13")                                                            \
+    X('i', StrictSplitAfter14, "the split tests 16 and 17 after 14")                                                         \
+    X('i', StrictScratchWritten, "opening has written places when it gives 16 or 17")                                        \
+    X('i', StrictSizeWritten, "the export's size is written although the answer is 16 or 17")                                \
+    X('i', JoinSecondStrictFirst, "joining gives the second file's 16 or 17 before the first's 1")                           \
+    X('i', JoinStrictLast, "joining gives the second file's 1 before the first's 16 or 17")                                  \
+    X('i', JoinFirstLenient, "joining reads the first file in the lenient manner")                                           \
+    X('i', JoinSecondLenient, "joining reads the second file in the lenient manner")                                         \
+    X('i', SeasonStrict, "the season reads takes in the strict manner")                                                      \
+    X('i', ModelNameStrict, "the model name is empty where the answer is 16 or 17")                                          \
+    X('i', JoinedModelStrict, "a first file that is 16 or 17 has no model name in a join")                                   \
+    X('i', StrictParseLenient, "vmd_parse_animation is lenient")                                                             \
+    X('i', StrictExportSizeLenient, "vmd_export_size is lenient")                                                            \
+    X('i', StrictExportLenient, "vmd_export_animation is lenient")                                                           \
+    X('i', StrictOlderSizeLenient, "vmd_export_older_size is lenient")                                                       \
+    X('i', StrictOlderLenient, "vmd_export_older_animation is lenient")                                                      \
+    X('i', StrictJoinSizeLenient, "vmd_join_size is lenient")                                                                \
+    X('i', StrictJoinLenient, "vmd_join_animations is lenient")                                                              \
+    X('i', StrictTidySizeLenient, "vmd_tidy_size is lenient")                                                                \
+    X('i', StrictTidyLenient, "vmd_tidy_animation is lenient")                                                               \
+    X('i', StrictSplitSizesLenient, "vmd_split_sizes is lenient")                                                            \
+    X('i', StrictSplitLenient, "vmd_split_animation_into_parts is lenient")                                                  \
+    X('i', LenientParseStrict, "vmd_parse_animation_lenient is strict")                                                      \
+    X('i', LenientExportSizeStrict, "vmd_export_size_lenient is strict")                                                     \
+    X('i', LenientExportStrict, "vmd_export_animation_lenient is strict")                                                    \
+    X('i', LenientOlderSizeStrict, "vmd_export_older_size_lenient is strict")                                                \
+    X('i', LenientOlderStrict, "vmd_export_older_animation_lenient is strict")                                               \
+    X('i', LenientJoinSizeStrict, "vmd_join_size_lenient is strict")                                                         \
+    X('i', LenientJoinStrict, "vmd_join_animations_lenient is strict")                                                       \
+    X('i', LenientTidySizeStrict, "vmd_tidy_size_lenient is strict")                                                         \
+    X('i', LenientTidyStrict, "vmd_tidy_animation_lenient is strict")                                                        \
+    X('i', LenientSplitSizesStrict, "vmd_split_sizes_lenient is strict")                                                     \
+    X('i', LenientSplitStrict, "vmd_split_animation_into_parts_lenient is strict")
 
 enum Alteration : int {
     AsWritten,

@@ -25,13 +25,16 @@ struct PairsMet {
     u64 turned_down = 0; // for a pair without a character
 };
 
+constexpr std::size_t numbers_end = 18; // of answers
+
 struct Progress {
-    u64 seed = 0, number = 0, calls = 0, accepted = 0, refused = 0;
+    u64 seed = 0, number = 0, calls = 0, takes = 0;
+    std::array<u64, 2> calls_in{}, accepted_in{}; // by manner; calls without one are in neither
     const char *call = "none";
     u64 i = 0, j = 0; // the numbers asked for, where the call has any
-    u64 answer = 0;   // the last one
-    std::unordered_map<const char *, std::array<u64, 16>> answers; // of calls that can refuse: how often each number
-    std::array<PairsMet, 5> pairs{};                               // by Of
+    std::unordered_map<const char *, std::array<u64, numbers_end>> answers; // of calls that can refuse: how often each
+    std::array<PairsMet, 5> pairs{};                                        // by Of
+    std::map<std::string, u64> strict;                                      // see count_strict
 };
 static Progress now;
 
@@ -47,6 +50,12 @@ static void begin(const char *call, u64 i = 0, u64 j = 0) {
     now.j = j;
     now.calls++;
 }
+
+// Begins the call of a name, or its twin of the lenient manner, and gives it. header: "Beside each stands a call whose name
+// ends in _lenient, with the same parameters": else this does not compile.
+#define VMD_TWIN(manner, name)                                                                                               \
+    (now.calls_in[(manner) == Manner::strict ? 0 : 1]++, begin((manner) == Manner::strict ? #name : #name "_lenient"),       \
+     (manner) == Manner::strict ? name : name##_lenient)
 
 // Nothing here allocates.
 static void on_signal(int number) {
@@ -148,6 +157,11 @@ template <class T> struct Lent {
     std::size_t n() const { return want.size(); }
     std::vector<T> now_there(std::size_t count) const { return std::vector<T>(at, at + count); }
 
+    void add_to(Bytes &all) const {
+        const u8 *from = reinterpret_cast<const u8 *>(at);
+        if (n()) all.insert(all.end(), from, from + n() * sizeof(T));
+    }
+
     void check() const {
         if (!region.strip_kept()) disagree(std::string("bytes beside '") + label + "' were written");
         if (n() == 0 || std::memcmp(at, want.data(), n() * sizeof(T)) == 0) return;
@@ -162,11 +176,16 @@ template <class T> struct Lent {
 
 static void answer(u64 got, u64 wanted) {
     if (got != wanted) disagree("expected " + std::to_string(wanted) + ", got " + std::to_string(got));
-    now.answer = wanted;
-    if (wanted < 16) now.answers[now.call][wanted]++;
+    if (wanted < numbers_end) now.answers[now.call][wanted]++;
 }
 
 template <class... Buffers> void check_all(const Buffers &...buffers) { (buffers.check(), ...); }
+
+// What a call answered, and all that it was lent to write to, as it stands after the call.
+struct Left {
+    u64 answer = 0;
+    Bytes lent;
+};
 
 // ---- names with pairs, counted as the model sees them
 
@@ -207,6 +226,83 @@ static void count_names(const Parts &p, u64 number) {
     }
 }
 
+// ---- what the strict manner turns down, counted as the model sees it
+
+static const char *const section_words[] = {"bones", "morphs", "cameras", "lights", "self-shadows", "properties"};
+static const char *const amounts[] = {"one record more than there is room for", "more", "4,294,967,295"};
+
+// Of an oversized count.
+static std::size_t amount(const Stop &stop) {
+    if (stop.count == 0xFFFFFFFF) return 2;
+    return stop.count == stop.left / record_size[stop.section] + 1 ? 0 : 1;
+}
+
+// i) "silently emptied lights and IK frames": whether a right count in place of the oversized one would read property frames.
+static bool frames_behind(const File &f, const Stop &stop) {
+    Bytes other = f.bytes;
+    for (u32 count = 0; count <= std::min<u64>(stop.left / record_size[stop.section], 40); count++) {
+        set_word(other, other.size() - stop.left - 4, count);
+        const Opening o = open(other, Manner::strict);
+        if (!o.stop.refusal && o.counts[properties] > 0) return true;
+    }
+    return false;
+}
+
+// What a run has to meet of a file, each in both editions.
+static std::vector<std::string> strict_cases(const File &f) {
+    const Stop stop = f.in(Manner::strict).opening.stop;
+    std::vector<std::string> cases;
+    const auto met = [&](bool holds, const std::string &what) {
+        if (holds) cases.push_back(what);
+    };
+    const bool over = stop.refusal == VMD_BYTES_OVER, oversized_ = stop.refusal == VMD_COUNT_OVERSIZED;
+    if (oversized_) cases.push_back(std::string("17 of ") + section_words[stop.section] + ", " + amounts[amount(stop)]);
+    met(oversized_ && stop.left == 0, "17 at the end of the file");
+    met(oversized_ && u64{stop.count} * record_size[stop.section] == stop.left + 1, "17 for one byte");
+    if (oversized_) cases.push_back(frames_behind(f, stop) ? "17 before property frames" : "17 before no property frames");
+    met(over && stop.count == 0, "16 after a property count of 0");
+    met(over && stop.count > 0, "16 after property frames");
+    met(over && stop.left == 1, "16 for one byte");
+    met(over && stop.left == 1 && f.bytes.back() == 0, "16 for one zero byte");
+    met(stop.refusal == 1 && stop.walk, "1 in the property frames");
+    const bool cut = stop.refusal == 1 && !stop.there;
+    met(cut && stop.section >= cameras && stop.section <= shadows, "1 at a cut camera, light or self-shadow count");
+    if (!stop.refusal) cases.push_back("accepted with " + std::to_string(stop.section + (stop.there ? 1 : 0)) + " counts");
+    return cases;
+}
+
+static void count_strict(const std::string &what, const File &f) {
+    if (alteration != AsWritten) return;
+    now.strict[what + (read_header(f.bytes).width == 10 ? ", older" : ", newer")]++;
+}
+static void count_take(const File &f) {
+    if (alteration != AsWritten || read_header(f.bytes).refusal) return;
+    for (const std::string &what : strict_cases(f)) count_strict(what, f);
+}
+static std::string join_case(u64 of_first, u64 of_second) {
+    return "join of " + std::to_string(of_first) + " and " + std::to_string(of_second);
+}
+static void count_join(u64 of_first, u64 of_second) {
+    if (alteration == AsWritten && std::max(of_first, of_second) >= 16) now.strict[join_case(of_first, of_second)]++;
+}
+
+// Every case that is counted, so that one that is never met is seen to be.
+static void begin_strict() {
+    std::vector<std::string> all = {"17 at the end of the file", "17 for one byte", "17 before property frames",
+                                    "17 before no property frames", "16 after a property count of 0",
+                                    "16 after property frames", "16 for one byte", "16 for one zero byte",
+                                    "1 in the property frames", "1 at a cut camera, light or self-shadow count",
+                                    "1 before 16", "1 before 17", "2 before 16", "2 before 17", "16 before a change",
+                                    "17 before a change"};
+    for (int s = cameras; s <= shadows; s++)
+        for (const char *amount_ : amounts) all.push_back(std::string("17 of ") + section_words[s] + ", " + amount_);
+    for (int n = 1; n <= 6; n++) all.push_back("accepted with " + std::to_string(n) + " counts");
+    for (const std::string &what : all) now.strict[what + ", newer"] = now.strict[what + ", older"] = 0;
+    for (u64 first : {0, 1, 2, 16, 17})
+        for (u64 second : {0, 1, 2, 16, 17})
+            if (std::max(first, second) >= 16) now.strict[join_case(first, second)] = 0;
+}
+
 // A file that is lent; it stays where it is for as long as the same file is lent.
 struct LentFile {
     Lent<u8> lent;
@@ -233,6 +329,7 @@ struct OpenSlots {
 // Every buffer and slot of the C interface has a region of its own.
 struct Calls {
     Rng r{0};
+    Left left; // by the last call that has a manner
     LentFile first{"file"}, second{"second file"};
     Lent<u8> out{"out"};
     Lent<u64> written{"written or size"}, scratch{"scratch"}, places{"places"}, totals{"totals"}, next{"next"};
@@ -250,18 +347,25 @@ struct Calls {
     Lent<u32> p_rotations{"bone_rotations_xyzw"}, p_morph_indices{"morph_name_indices"}, p_morph_frames{"morph_frames"};
     Lent<u32> p_weights{"morph_weights"};
 
+    template <class... Buffers> void leave(u64 got, const Buffers &...buffers) {
+        check_all(first, buffers...);
+        left.answer = got;
+        left.lent.clear();
+        (buffers.add_to(left.lent), ...);
+    }
+
     // ---- opening
 
-    OpenSlots parse(const File &f, std::size_t scratch_len) {
+    OpenSlots parse(const File &f, Manner m, std::size_t scratch_len) {
         first.lend(f);
         scratch.lend_junk(r, scratch_len);
         counts.lend_junk(r, 6);
         places.lend_junk(r, 6);
         totals.lend_junk(r, 3);
-        begin("vmd_parse_animation");
-        const u32 got = vmd_parse_animation(first.at(), first.n(), scratch.at, scratch.n(), counts.at, places.at, totals.at);
-        answer(got, parse_animation(f, scratch.want, counts.want, places.want, totals.want));
-        check_all(first, scratch, counts, places, totals);
+        const auto call = VMD_TWIN(m, vmd_parse_animation);
+        const u32 got = call(first.at(), first.n(), scratch.at, scratch.n(), counts.at, places.at, totals.at);
+        answer(got, parse_animation(f, m, scratch.want, counts.want, places.want, totals.want));
+        leave(got, scratch, counts, places, totals);
         return {counts.want, places.want, totals.want, scratch.want};
     }
 
@@ -393,71 +497,68 @@ struct Calls {
 
     Bytes what_was_written(u32 got) const { return got ? Bytes() : out.now_there(written.at[0]); }
 
-    void export_size(const File &f) {
+    void export_size(const File &f, Manner m) {
         first.lend(f);
         written.lend_junk(r, 1);
-        begin("vmd_export_size");
-        const u32 got = vmd_export_size(first.at(), first.n(), written.at);
-        answer(got, model::export_size(f, written.want));
-        check_all(first, written);
+        const u32 got = VMD_TWIN(m, vmd_export_size)(first.at(), first.n(), written.at);
+        answer(got, model::export_size(f, m, written.want));
+        leave(got, written);
     }
-    Bytes export_animation(const File &f, std::size_t out_len) {
-        first.lend(f);
-        out.lend_junk(r, out_len);
-        written.lend_junk(r, 1);
-        begin("vmd_export_animation");
-        const u32 got = vmd_export_animation(first.at(), first.n(), out.at, out.n(), written.at);
-        answer(got, model::export_animation(f, out.want, written.want));
-        check_all(first, out, written);
-        return what_was_written(got);
-    }
-    void export_older_size(const File &f) {
-        first.lend(f);
-        written.lend_junk(r, 1);
-        begin("vmd_export_older_size");
-        const u32 got = vmd_export_older_size(first.at(), first.n(), written.at);
-        answer(got, model::export_older_size(f, written.want));
-        check_all(first, written);
-    }
-    Bytes export_older_animation(const File &f, std::size_t out_len) {
+    Bytes export_animation(const File &f, Manner m, std::size_t out_len) {
         first.lend(f);
         out.lend_junk(r, out_len);
         written.lend_junk(r, 1);
-        begin("vmd_export_older_animation");
-        const u32 got = vmd_export_older_animation(first.at(), first.n(), out.at, out.n(), written.at);
-        answer(got, model::export_older_animation(f, out.want, written.want));
-        check_all(first, out, written);
+        const u32 got = VMD_TWIN(m, vmd_export_animation)(first.at(), first.n(), out.at, out.n(), written.at);
+        answer(got, model::export_animation(f, m, out.want, written.want));
+        leave(got, out, written);
         return what_was_written(got);
     }
-    void join_size(const File &f, const File &g) {
+    void export_older_size(const File &f, Manner m) {
+        first.lend(f);
+        written.lend_junk(r, 1);
+        const u32 got = VMD_TWIN(m, vmd_export_older_size)(first.at(), first.n(), written.at);
+        answer(got, model::export_older_size(f, m, written.want));
+        leave(got, written);
+    }
+    Bytes export_older_animation(const File &f, Manner m, std::size_t out_len) {
+        first.lend(f);
+        out.lend_junk(r, out_len);
+        written.lend_junk(r, 1);
+        const u32 got = VMD_TWIN(m, vmd_export_older_animation)(first.at(), first.n(), out.at, out.n(), written.at);
+        answer(got, model::export_older_animation(f, m, out.want, written.want));
+        leave(got, out, written);
+        return what_was_written(got);
+    }
+    void join_size(const File &f, const File &g, Manner m) {
         first.lend(f);
         second.lend(g);
         written.lend_junk(r, 1);
-        begin("vmd_join_size");
-        const u32 got = vmd_join_size(first.at(), first.n(), second.at(), second.n(), written.at);
-        answer(got, model::join_size(f, g, written.want));
-        check_all(first, second, written);
+        const u32 got = VMD_TWIN(m, vmd_join_size)(first.at(), first.n(), second.at(), second.n(), written.at);
+        answer(got, model::join_size(f, g, m, written.want));
+        second.check();
+        leave(got, written);
     }
-    Bytes join_animations(const File &f, const File &g, std::size_t out_len) {
+    Bytes join_animations(const File &f, const File &g, Manner m, std::size_t out_len) {
         first.lend(f);
         second.lend(g);
         out.lend_junk(r, out_len);
         written.lend_junk(r, 1);
-        begin("vmd_join_animations");
-        const u32 got = vmd_join_animations(first.at(), first.n(), second.at(), second.n(), out.at, out.n(), written.at);
-        answer(got, model::join_animations(f, g, out.want, written.want));
-        check_all(first, second, out, written);
+        const auto call = VMD_TWIN(m, vmd_join_animations);
+        const u32 got = call(first.at(), first.n(), second.at(), second.n(), out.at, out.n(), written.at);
+        answer(got, model::join_animations(f, g, m, out.want, written.want));
+        second.check();
+        leave(got, out, written);
         return what_was_written(got);
     }
     // header: "what it only reads may" overlap
-    void join_with_itself(const File &f, std::size_t out_len) {
+    void join_with_itself(const File &f, Manner m, std::size_t out_len) {
         first.lend(f);
         out.lend_junk(r, out_len);
         written.lend_junk(r, 1);
-        begin("vmd_join_animations");
-        const u32 got = vmd_join_animations(first.at(), first.n(), first.at(), first.n(), out.at, out.n(), written.at);
-        answer(got, model::join_animations(f, f, out.want, written.want));
-        check_all(first, out, written);
+        const auto call = VMD_TWIN(m, vmd_join_animations);
+        const u32 got = call(first.at(), first.n(), first.at(), first.n(), out.at, out.n(), written.at);
+        answer(got, model::join_animations(f, f, m, out.want, written.want));
+        leave(got, out, written);
     }
     void joined_model(const File &f, const File &g) {
         first.lend(f);
@@ -478,21 +579,20 @@ struct Calls {
         kept.lend_junk(r, 6);
         dropped.lend_junk(r, 6);
     }
-    void tidy_size(const File &f, std::size_t scratch_len) {
+    void tidy_size(const File &f, Manner m, std::size_t scratch_len) {
         lend_tidy(f, scratch_len);
-        begin("vmd_tidy_size");
-        const u32 got = vmd_tidy_size(first.at(), first.n(), scratch.at, scratch.n(), written.at, kept.at, dropped.at);
-        answer(got, model::tidy_size(f, scratch.want, written.want, kept.want, dropped.want));
-        check_all(first, scratch, written, kept, dropped);
+        const auto call = VMD_TWIN(m, vmd_tidy_size);
+        const u32 got = call(first.at(), first.n(), scratch.at, scratch.n(), written.at, kept.at, dropped.at);
+        answer(got, model::tidy_size(f, m, scratch.want, written.want, kept.want, dropped.want));
+        leave(got, scratch, written, kept, dropped);
     }
-    Bytes tidy_animation(const File &f, std::size_t scratch_len, std::size_t out_len) {
+    Bytes tidy_animation(const File &f, Manner m, std::size_t scratch_len, std::size_t out_len) {
         lend_tidy(f, scratch_len);
         out.lend_junk(r, out_len);
-        begin("vmd_tidy_animation");
-        const u32 got = vmd_tidy_animation(first.at(), first.n(), scratch.at, scratch.n(), out.at, out.n(), written.at,
-                                           kept.at, dropped.at);
-        answer(got, model::tidy_animation(f, scratch.want, out.want, written.want, kept.want, dropped.want));
-        check_all(first, scratch, out, written, kept, dropped);
+        const auto call = VMD_TWIN(m, vmd_tidy_animation);
+        const u32 got = call(first.at(), first.n(), scratch.at, scratch.n(), out.at, out.n(), written.at, kept.at, dropped.at);
+        answer(got, model::tidy_animation(f, m, scratch.want, out.want, written.want, kept.want, dropped.want));
+        leave(got, scratch, out, written, kept, dropped);
         return what_was_written(got);
     }
 
@@ -574,21 +674,19 @@ struct Calls {
 
     // ---- parts out of a take
 
-    void split_sizes(const File &f) {
+    void split_sizes(const File &f, Manner m) {
         first.lend(f);
         sizes.lend_junk(r, 4);
-        begin("vmd_split_sizes");
-        const u32 got = vmd_split_sizes(first.at(), first.n(), sizes.at);
-        answer(got, model::split_sizes(f, sizes.want));
-        check_all(first, sizes);
+        const u32 got = VMD_TWIN(m, vmd_split_sizes)(first.at(), first.n(), sizes.at);
+        answer(got, model::split_sizes(f, m, sizes.want));
+        leave(got, sizes);
     }
     // lengths has the wanted length of each buffer; what it holds does not count.
-    int split_animation(const File &f, const Parts &lengths) {
+    int split_animation(const File &f, Manner m, const Parts &lengths) {
         first.lend(f);
         each_part(lengths, [this](auto &lent, const auto &part_) { lent.lend_junk(r, part_.size()); });
         sizes.lend_junk(r, 4);
-        begin("vmd_split_animation_into_parts");
-        const u32 got = vmd_split_animation_into_parts(
+        const u32 got = VMD_TWIN(m, vmd_split_animation_into_parts)(
             first.at(), first.n(), p_bone_bytes.at, p_bone_bytes.n(), p_bone_ends.at, p_bone_ends.n(), p_morph_bytes.at,
             p_morph_bytes.n(), p_morph_ends.at, p_morph_ends.n(), p_cameras.at, p_cameras.n(), p_lights.at, p_lights.n(),
             p_shadows.at, p_shadows.n(), p_properties.at, p_properties.n(), p_bone_indices.at, p_bone_indices.n(),
@@ -597,10 +695,11 @@ struct Calls {
             p_morph_frames.n(), p_weights.at, p_weights.n(), sizes.at);
         Parts buffers;
         each_part(buffers, [](auto &lent, auto &part_) { part_ = lent.want; });
-        answer(got, model::split_animation_into_parts(f, buffers, sizes.want));
+        answer(got, model::split_animation_into_parts(f, m, buffers, sizes.want));
         each_part(buffers, [](auto &lent, auto &part_) { lent.want = part_; });
         each_part(buffers, [](auto &lent, auto &) { lent.check(); });
-        check_all(first, sizes);
+        leave(got, sizes);
+        each_part(buffers, [this](auto &lent, auto &) { lent.add_to(left.lent); });
         return static_cast<int>(got);
     }
     // The parts as they stand in the lent memory, cut to their lengths.

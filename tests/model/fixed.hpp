@@ -1,5 +1,5 @@
-// Answers that stand in the papers themselves, without the model: the takes of document 01, every short name, and sections too
-// long to be made otherwise.
+// Answers that stand in the papers themselves, without the model: the takes of document 01, the manners of request i), every
+// short name, and sections too long to be made otherwise.
 #ifndef FIXED_HPP
 #define FIXED_HPP
 
@@ -22,14 +22,15 @@ inline Bytes start(std::initializer_list<u32> counts) {
     return f;
 }
 
-inline u32 opened(const Bytes &f, Words &counts) {
+inline u32 opened(const Bytes &f, Manner m, Words &counts) {
     Longs places(6), totals(3), scratch(4);
     counts.assign(6, 0);
-    return vmd_parse_animation(f.data(), f.size(), scratch.data(), scratch.size(), counts.data(), places.data(), totals.data());
+    const auto call = m == Manner::strict ? vmd_parse_animation : vmd_parse_animation_lenient;
+    return call(f.data(), f.size(), scratch.data(), scratch.size(), counts.data(), places.data(), totals.data());
 }
-inline u32 opened(const Bytes &f) {
+inline u32 opened(const Bytes &f, Manner m) {
     Words counts;
-    return opened(f, counts);
+    return opened(f, m, counts);
 }
 inline Bytes exported(const Bytes &f) {
     Bytes out(4096);
@@ -43,18 +44,71 @@ inline Bytes exported(const Bytes &f) {
 // "P start,0,1: 1. P start,0,0,1: accepted, no cameras. P start,0,0,0,0,0,1: 1."
 inline void openings() {
     Words counts;
-    equal("29 bytes", 1, opened(Bytes(29, 0x41)));
-    equal("30 bytes of 0x41", 2, opened(Bytes(30, 0x41)));
-    equal("start", 1, opened(start({})));
-    equal("start,0", 0, opened(start({0})));
-    equal("start,0 exported", 74, exported(start({0})).size());
     Bytes one_more = start({0});
     one_more.push_back(0);
-    equal("start,0 and one byte", 1, opened(one_more));
-    equal("start,0,1", 1, opened(start({0, 1})));
-    equal("start,0,0,1", 0, opened(start({0, 0, 1}), counts));
+    for (Manner m : manners) {
+        equal("29 bytes", 1, opened(Bytes(29, 0x41), m));
+        equal("30 bytes of 0x41", 2, opened(Bytes(30, 0x41), m));
+        equal("start", 1, opened(start({}), m));
+        equal("start,0", 0, opened(start({0}), m));
+        equal("start,0 and one byte", 1, opened(one_more, m));
+        equal("start,0,1", 1, opened(start({0, 1}), m));
+        equal("start,0,0,0,0,0,1", 1, opened(start({0, 0, 0, 0, 0, 1}), m));
+    }
+    equal("start,0 exported", 74, exported(start({0})).size());
+    equal("start,0,0,1", 0, opened(start({0, 0, 1}), Manner::lenient, counts));
     equal("start,0,0,1 has no cameras", 0, counts[VMD_CAMERAS]);
-    equal("start,0,0,0,0,0,1", 1, opened(start({0, 0, 0, 0, 0, 1})));
+}
+
+// Every call that reads a whole take, of a file that has no records in the lenient manner; all have to answer the same.
+inline void every_call(const char *what, u64 wanted, const Bytes &f, Manner m) {
+    const bool strict = m == Manner::strict;
+    const u8 *file = f.data();
+    const std::size_t n = f.size();
+    const Bytes whole = start({0, 0, 0, 0, 0, 0});
+    Words counts(6), kept(6), dropped(6);
+    Longs places(6), totals(3), sizes(4);
+    Bytes out(100);
+    u64 size = 0;
+    const auto same = [&](u64 got) { equal(what, wanted, got); };
+    same(opened(f, m, counts));
+    same((strict ? vmd_export_size : vmd_export_size_lenient)(file, n, &size));
+    same((strict ? vmd_export_animation : vmd_export_animation_lenient)(file, n, out.data(), 100, &size));
+    same((strict ? vmd_export_older_size : vmd_export_older_size_lenient)(file, n, &size));
+    same((strict ? vmd_export_older_animation : vmd_export_older_animation_lenient)(file, n, out.data(), 100, &size));
+    const auto join_size = strict ? vmd_join_size : vmd_join_size_lenient;
+    const auto join = strict ? vmd_join_animations : vmd_join_animations_lenient;
+    same(join_size(file, n, whole.data(), whole.size(), &size));
+    same(join_size(whole.data(), whole.size(), file, n, &size));
+    same(join(file, n, whole.data(), whole.size(), out.data(), 100, &size));
+    same(join(whole.data(), whole.size(), file, n, out.data(), 100, &size));
+    const auto tidy_size = strict ? vmd_tidy_size : vmd_tidy_size_lenient;
+    const auto tidy = strict ? vmd_tidy_animation : vmd_tidy_animation_lenient;
+    same(tidy_size(file, n, nullptr, 0, &size, kept.data(), dropped.data()));
+    same(tidy(file, n, nullptr, 0, out.data(), 100, &size, kept.data(), dropped.data()));
+    same((strict ? vmd_split_sizes : vmd_split_sizes_lenient)(file, n, sizes.data()));
+    const auto split = strict ? vmd_split_animation_into_parts : vmd_split_animation_into_parts_lenient;
+    same(split(file, n, nullptr, 0, nullptr, 0, nullptr, 0, nullptr, 0, nullptr, 0, nullptr, 0, nullptr, 0, nullptr, 0,
+               nullptr, 0, nullptr, 0, nullptr, 0, nullptr, 0, nullptr, 0, nullptr, 0, nullptr, 0, nullptr, 0, sizes.data()));
+}
+
+// i) "The case start,0,0,1 of document 01 is accepted in the lenient manner and is 17 in the strict one."; "16 bytes after the
+// last property frame, or after its count of 0"; "the season figures relied on the lenient manner"
+inline void manners_of_calls() {
+    Bytes over = start({0, 0, 0, 0, 0, 0}), after_frame = start({0, 0, 0, 0, 0, 1});
+    over.push_back(0);
+    after_frame.resize(after_frame.size() + 9 + 1, 0);
+    equal("a byte after a frame", 16, opened(after_frame, Manner::strict));
+    equal("a byte after a frame, lenient", 0, opened(after_frame, Manner::lenient));
+    for (const Bytes &f : {start({0, 0, 1}), start({0, 0, 0, 1}), start({0, 0, 0, 0, 1}), over}) {
+        every_call("an oversized count, or a byte over", f == over ? 16 : 17, f, Manner::strict);
+        every_call("an oversized count, or a byte over, lenient", 0, f, Manner::lenient);
+        Words counts(12);
+        Longs figures(11);
+        vmd_season_add(f.data(), f.size(), counts.data(), figures.data());
+        equal("in a season", 1, figures[VMD_SEASON_ACCEPTED]);
+    }
+    for (Manner m : manners) every_call("missing counts", 0, start({0, 0}), m);
 }
 
 // "P perspective bytes 0, 1, 2 are written 0, 1, 1. P name 0x41 0x00 0x42 is written 0x41 and zeros."
@@ -113,6 +167,7 @@ inline void pairs() {
 inline void takes_to_try() {
     now.call = "takes to try";
     openings();
+    manners_of_calls();
     exports();
     names();
     pairs();
@@ -159,9 +214,9 @@ class Zeros {
     u64 length;
 };
 
-// A file of that many self-shadows and nothing else.
+// A file of that many self-shadows and nothing else, with more zero bytes after them.
 struct LongFile : Zeros {
-    explicit LongFile(u32 shadows_) : Zeros(70 + 9 * u64{shadows_}) {
+    explicit LongFile(u32 shadows_, u64 more = 0) : Zeros(70 + 9 * u64{shadows_} + more) {
         const Bytes header = start({0, 0, 0, 0, shadows_});
         std::copy(header.begin(), header.end(), bytes);
     }
@@ -181,6 +236,31 @@ inline void huge_join() {
     equal("its size", 74 + 9 * u64{0xFFFFFFFF}, size);
     equal("join of 2^32 - 1", 13, vmd_join_animations(f.bytes, f.length, g.bytes, g.length, out, 100, &written));
     equal("written as it was", 7, written);
+    // i) 16 and 17 are met in the second file, and so before 11
+    const LongFile over(half, 5);
+    size = 7;
+    equal("join size of 2^32, lenient", 11, vmd_join_size_lenient(f.bytes, f.length, over.bytes, over.length, &size));
+    equal("a byte over before 11", 16, vmd_join_size(f.bytes, f.length, over.bytes, over.length, &size));
+    equal("join, a byte over before 11", 16,
+          vmd_join_animations(f.bytes, f.length, over.bytes, over.length, out, 100, &written));
+    equal("join of 2^32, lenient", 11,
+          vmd_join_animations_lenient(f.bytes, f.length, over.bytes, over.length, out, 100, &written));
+    equal("size as it was", 7, size);
+    equal("written as it was", 7, written);
+}
+
+// i) The self-shadows of a file whose count is one too high.
+inline void huge_oversized() {
+    const LongFile f(half);
+    Words counts(6);
+    Longs places(6), totals(3);
+    const u64 length = f.length - 1;
+    equal("one byte short", 17,
+          vmd_parse_animation(f.bytes, length, nullptr, 0, counts.data(), places.data(), totals.data()));
+    equal("one byte short, lenient", 0,
+          vmd_parse_animation_lenient(f.bytes, length, nullptr, 0, counts.data(), places.data(), totals.data()));
+    equal("no self-shadows", 0, counts[VMD_SELF_SHADOWS]);
+    equal("emptied place", length, places[VMD_SELF_SHADOWS]);
 }
 
 // Opening, fetches at the end, season, tidying and parts of a long file.

@@ -12,11 +12,14 @@
 
 // ---- one case
 
+static u64 places_for(const Opening &o) { return (o.property_places.size() + 15) / 16; }
+
 struct Case {
     Calls &c;
     Rng &r;
     const File &a, &b, &d; // take n, n - 1 and n - 2
     bool big;
+    Left strict{}; // by the strict twin of the last two: see in_both
 
     static void law(bool holds, const char *which) {
         if (!holds) disagree(std::string("law: ") + which);
@@ -32,40 +35,163 @@ struct Case {
         }
     }
 
-    // Every call is made for every take; what goes beyond one or two of each, and the laws that need many, for some of them.
+    // Every call is made for every take, in both manners where it has them; what goes beyond one or two of each, and the laws
+    // that need many, for some of them. i) "The laws of saving and joining hold in each manner over the files it accepts."
     void run() {
+        count_take(a);
+        every_call(a);
         opening();
         fetch_own();
         for (int n = 0; n < 2; n++) fetch_foreign();
-        saving();
         joining();
         tidying();
-        splitting();
         building();
         names();
         season_limits();
         if (sometimes(4)) season_list();
         if (!big && r.one_in(256)) every_cut();
-        if (read_header(a.bytes).width == 10 && sometimes(2)) widened();
-        if (a.refusal()) return;
-        if (sometimes(3)) equality();
-        if (sometimes(4) && !b.refusal()) unit(), join_reads_back();
-        if (sometimes(4) && !b.refusal() && !d.refusal()) associativity();
-        if (sometimes(4)) tidy_twice();
+        if (a.in(Manner::strict).refusal() >= 16) turned_down();
+        if (read_header(a.bytes).width == 10 && sometimes(2)) widened(some_manner());
+        const Manner m = manner_of_a();
+        if (a.in(m).refusal()) return;
+        saving(m);
+        splitting(m);
+        if (sometimes(3)) equality(m);
+        if (sometimes(4) && !b.in(m).refusal()) unit(m), join_reads_back(m);
+        if (sometimes(4) && !b.in(m).refusal() && !d.in(m).refusal()) associativity(m);
+        if (sometimes(4)) tidy_twice(m);
     }
     bool sometimes(u64 n) { return big || r.one_in(n); }
+    Manner some_manner() { return r.one_in(2) ? Manner::strict : Manner::lenient; }
+    // One that accepts the take, where there is one.
+    Manner manner_of_a() { return a.in(Manner::strict).refusal() ? Manner::lenient : some_manner(); }
+
+    // ---- the two manners
+
+    // Both twins are lent the same, byte for byte.
+    template <class F> void lend_both(F call) {
+        const Rng lent = c.r, at = sides;
+        call(Manner::strict);
+        std::swap(strict, c.left);
+        c.r = lent;
+        sides = at;
+        call(Manner::lenient);
+        law(c.left.answer < VMD_BYTES_OVER, "the lenient manner has no 16 and 17");
+    }
+    // i) "The Rust's reading is what the lenient manner gives; a strict answer that is no refusal equals it.": in the answer
+    // and in every byte. So does every refusal but 16 and 17; these are of files that the lenient manner accepts.
+    template <class F> void in_both(F call) {
+        lend_both(call);
+        const bool turned = strict.answer == VMD_BYTES_OVER || strict.answer == VMD_COUNT_OVERSIZED;
+        if (turned) law(c.left.answer != 1 && c.left.answer != 2, "16 and 17 are of files that the lenient manner accepts");
+        else law(strict.answer == c.left.answer && strict.lent == c.left.lent, "a strict answer is the lenient one");
+    }
+
+    // Every call that reads one whole take; gives the strict answers.
+    Longs every_call(const File &f) {
+        const Reading &read = f.in(Manner::lenient);
+        const bool none = read.refusal();
+        const u64 frames = places_for(read.opening), places = none ? r.below(9) : largest_section(read);
+        const u64 exact = none ? r.below(200) : canonical_size(read.take());
+        const u64 tidy_exact = none ? r.below(200) : canonical_size(model::tidied(read));
+        Longs answers;
+        const auto both = [&](auto call) {
+            in_both(call);
+            answers.push_back(strict.answer);
+        };
+        const std::size_t n[] = {some_length(frames), some_length(exact), some_length(exact - std::min<u64>(exact, 10)),
+                                 some_length(places), some_length(places), some_length(tidy_exact)};
+        both([&](Manner m) { c.parse(f, m, n[0]); });
+        both([&](Manner m) { c.export_size(f, m); });
+        both([&](Manner m) { c.export_animation(f, m, n[1]); });
+        both([&](Manner m) { c.export_older_size(f, m); });
+        both([&](Manner m) { c.export_older_animation(f, m, n[2]); });
+        both([&](Manner m) { c.tidy_size(f, m, n[3]); });
+        // with a short output the library counts without scratch, which takes seconds where a take is long
+        both([&](Manner m) { c.tidy_animation(f, m, n[4], big ? tidy_exact : n[5]); });
+        both([&](Manner m) { c.split_sizes(f, m); });
+        const Parts lengths = buffer_lengths(none ? Parts() : parts(f, read), read.take(), false);
+        both([&](Manner m) { c.split_animation(f, m, lengths); });
+        return answers;
+    }
+    void answers_are(u64 number, const File &f, const char *which) {
+        const Longs answers = every_call(f);
+        law(std::count(answers.begin(), answers.end(), number) == static_cast<std::ptrdiff_t>(answers.size()), which);
+    }
+
+    // What was written; it is accepted in the strict manner, and reads the same in both.
+    OpenSlots opened(const File &f) {
+        OpenSlots slots;
+        const u64 places = places_for(f.in(Manner::strict).opening);
+        in_both([&](Manner m) { slots = c.parse(f, m, places); });
+        law(strict.answer == 0, "what is written is accepted in the strict manner");
+        return slots;
+    }
+
+    // A file that is 16 or 17.
+    void turned_down() {
+        if (sometimes(2)) mended();
+        if (sometimes(2)) fault_before();
+        if (sometimes(2)) change_after();
+    }
+
+    // Without the bytes over, or without the oversized count and what is behind it, the strict manner reads what the lenient
+    // one reads in the whole: "that section is empty, the reader goes to the end, so later sections are empty too".
+    void mended() {
+        const Stop stop = a.in(Manner::strict).opening.stop;
+        const u64 n = a.bytes.size() - stop.left - (stop.refusal == VMD_COUNT_OVERSIZED ? 4 : 0);
+        const File rest(Bytes(a.bytes.begin(), a.bytes.begin() + static_cast<std::ptrdiff_t>(n)));
+        const Reading &read = a.in(Manner::lenient);
+        const u64 exact = canonical_size(read.take()), places = places_for(read.opening);
+        const Bytes whole = c.export_animation(a, Manner::lenient, exact);
+        law(c.export_animation(rest, Manner::strict, exact) == whole, "mended, it has the lenient manner's export");
+        OpenSlots of_a = c.parse(a, Manner::lenient, places), of_rest = c.parse(rest, Manner::strict, places);
+        for (u64 &place : of_a.places) place = std::min(place, n); // of sections that are missing or emptied
+        law(of_a.counts == of_rest.counts && of_a.totals == of_rest.totals, "mended, it counts as in the lenient manner");
+        law(of_a.places == of_rest.places && of_a.scratch == of_rest.scratch, "mended, it has the same places");
+    }
+
+    // "both as met in the file": a 2, or a 1 that is met before, stays what it is.
+    void fault_before() {
+        const Opening &o = a.in(Manner::lenient).opening;
+        const int number_ = a.in(Manner::strict).refusal();
+        Bytes f = a.bytes;
+        if (r.one_in(4)) {
+            f[r.below(25)] ^= 0x80;
+            answers_are(VMD_MAGIC_DIFFERS, File(f), "2 before 16 and 17");
+            return count_strict("2 before " + std::to_string(number_), a);
+        }
+        const bool in_frames = number_ == VMD_BYTES_OVER && !o.property_places.empty() && r.one_in(2);
+        const u64 count_place = in_frames ? r.pick(o.property_places) + 5 : o.places[r.below(2)] - 4;
+        set_word(f, count_place, r.one_in(2) ? 0xFFFFFFFF : static_cast<u32>(f.size())); // more records than there are bytes
+        answers_are(VMD_ENDS_EARLY, File(f), "a 1 before 16 and 17");
+        count_strict("1 before " + std::to_string(number_), a);
+    }
+
+    // What comes after changes nothing: fewer bytes after an oversized count, more after the last property frame.
+    void change_after() {
+        const Stop stop = a.in(Manner::strict).opening.stop;
+        Bytes f = a.bytes;
+        if (stop.refusal == VMD_COUNT_OVERSIZED) f.resize(f.size() - r.below(stop.left + 1));
+        else add_over(r, f);
+        answers_are(static_cast<u64>(stop.refusal), File(f), "16 and 17 whatever comes after");
+        count_strict(std::to_string(stop.refusal) + " before a change", a);
+    }
 
     // ---- opening and fetches
 
+    void open_both(u64 places) {
+        in_both([&](Manner m) { c.parse(a, m, places); });
+    }
     void opening() {
-        const u64 needed = (a.opening.property_places.size() + 15) / 16;
-        c.parse(a, some_length(needed));
-        if (needed > 0 && !a.refusal() && r.one_in(2)) c.parse(a, needed - 1);
-        if (r.one_in(4)) c.parse(a, a.opening.property_places.size());
+        const Opening &o = a.in(Manner::lenient).opening;
+        const u64 needed = places_for(o);
+        if (needed > 0 && r.one_in(2)) open_both(needed - 1);
+        if (r.one_in(4)) open_both(o.property_places.size());
         // header: "A scratch of (file_len / 9 + 15) / 16 places is enough for any file."
         if (r.one_in(4)) {
-            c.parse(a, (a.bytes.size() / 9 + 15) / 16);
-            law(now.answer != VMD_SCRATCH_TOO_SHORT, "scratch enough for any file of its length");
+            open_both((a.bytes.size() / 9 + 15) / 16);
+            law(strict.answer != 3 && c.left.answer != 3, "scratch enough for any file of its length");
         }
     }
 
@@ -87,10 +213,11 @@ struct Case {
     void fetch_own() {
         c.model_name(a);
         const Name own_model = part_there();
-        if (a.refusal()) return;
-        const OpenSlots o = c.parse(a, (a.opening.property_places.size() + 15) / 16 + r.below(2));
-        const Take &t = a.take();
-        law(own_model == a.take().model, "the file's model name");
+        const Manner m = manner_of_a();
+        if (a.in(m).refusal()) return;
+        const OpenSlots o = c.parse(a, m, places_for(a.in(m).opening) + r.below(2));
+        const Take &t = a.in(m).take();
+        law(own_model == t.model, "the file's model name");
         c.lend_opening(a, o);
         for (u64 i : numbers_to_ask(t.bones.size())) own_bone(t, i);
         for (u64 i : numbers_to_ask(t.morphs.size())) own_morph(t, i);
@@ -100,7 +227,7 @@ struct Case {
         for (u64 i : numbers_to_ask(t.properties.size())) own_property(t, i);
         if (r.one_in(8))
             for (u64 i = 0; i < t.properties.size() && i < 80; i++) own_property(t, i);
-        walk_properties(o, t);
+        walk_properties(o, a.in(m).opening);
     }
     Name part_of(const Longs &part) const {
         return Name(reinterpret_cast<const char *>(c.first.at()) + part[0], part[1]);
@@ -151,12 +278,12 @@ struct Case {
         }
     }
     // header: "from places[VMD_PROPERTIES] on this reads the counts[VMD_PROPERTIES] frames of a file one after another"
-    void walk_properties(const OpenSlots &o, const Take &t) {
-        u64 at = o.places[properties];
-        for (u64 i = 0; i < t.properties.size() && i < 80; i++) {
-            law(at == a.opening.property_places[i], "property_frame_at walks from frame to frame");
+    void walk_properties(const OpenSlots &slots, const Opening &o) {
+        u64 at = slots.places[properties];
+        for (u64 i = 0; i < o.property_places.size() && i < 80; i++) {
+            law(at == o.property_places[i], "property_frame_at walks from frame to frame");
             law(c.property_frame_at(a, at) == 0, "property_frame_at takes every frame of its file");
-            const Property &p = t.properties[i];
+            const Property &p = o.take.properties[i];
             law(record_there() == Words{p.frame, p.visible, static_cast<u32>(p.iks.size())}, "property_frame_at reads it");
             at = c.next.at[0];
         }
@@ -164,13 +291,14 @@ struct Case {
 
     u64 some_place(u64 i, u64 size) {
         const u64 n = a.bytes.size();
+        const Longs &own = a.in(Manner::lenient).opening.property_places;
         switch (r.below(7)) {
         case 0: return r.below(n + 30);
         case 1: return n - std::min(n, i * size + size) + r.below(3) - 1;
         case 2: return n - std::min(n, size) + r.below(3) - 1;
         case 3: return 0 - i * size + r.below(n + 1);      // its sum wraps into the file
         case 4: return r.one_in(2) ? 0 - r.below(130) : r.next();
-        case 5: return a.opening.property_places.empty() ? 0 : r.pick(a.opening.property_places);
+        case 5: return own.empty() ? 0 : r.pick(own);
         default: return r.below(60);
         }
     }
@@ -178,8 +306,9 @@ struct Case {
     // An opening that is made up, or another file's.
     OpenSlots foreign_opening(u64 i) {
         OpenSlots o{Words(6), Longs(6), Longs(3), Longs(r.one_in(3) ? r.below(6) : 1 + i % 200 / 16)};
-        if (r.one_in(3)) o = c.parse(b, (b.opening.property_places.size() + 15) / 16);
-        else if (r.one_in(3) && !a.refusal()) o = c.parse(a, (a.opening.property_places.size() + 15) / 16);
+        const Manner m = some_manner();
+        if (r.one_in(3)) o = c.parse(b, m, places_for(b.in(m).opening));
+        else if (r.one_in(3) && !a.in(m).refusal()) o = c.parse(a, m, places_for(a.in(m).opening));
         else o.counts.assign(6, r.one_in(2) ? 0xFFFFFFFF : static_cast<u32>(r.below(80)));
         if (r.one_in(3)) return o;
         for (int s = 0; s < 6; s++)
@@ -218,55 +347,54 @@ struct Case {
 
     // ---- saving
 
-    void saving() {
-        c.export_size(a);
-        c.export_older_size(a);
-        const u64 exact = a.refusal() ? r.below(200) : canonical_size(a.take());
-        c.export_animation(a, some_length(exact));
-        c.export_older_animation(a, some_length(exact - std::min<u64>(exact, 10)));
-        if (a.refusal()) return;
-        const Bytes whole = c.export_animation(a, exact);
-        law(whole.size() == exact, "an output of the export's length is long enough");
-        if (sometimes(3)) reads_back(whole);
-        if (sometimes(3)) older_reads_back(whole);
+    Bytes exported(const File &f, Manner m) { return c.export_animation(f, m, canonical_size(f.in(m).take())); }
+
+    void saving(Manner m) {
+        const Bytes whole = exported(a, m);
+        law(whole.size() == canonical_size(a.in(m).take()), "an output of the export's length is long enough");
+        if (sometimes(3)) reads_back(m, whole);
+        if (sometimes(3)) older_reads_back(m, whole);
     }
 
     // "the export of each is accepted and reads back as its records and its model name"
-    void reads_back(const Bytes &whole) {
+    void reads_back(Manner m, const Bytes &whole) {
         const File again(whole);
-        const OpenSlots o = c.parse(again, (a.opening.property_places.size() + 15) / 16);
-        law(!again.refusal() && again.take() == a.take(), "an export reads back");
-        law(o.totals == Longs({a.opening.iks, a.opening.smallest, a.opening.largest}), "its totals");
-        law(c.export_animation(again, whole.size()) == whole, "the export of an export is the export");
+        const Opening &o = a.in(m).opening;
+        const OpenSlots slots = opened(again);
+        law(!again.in(m).refusal() && again.in(m).take() == o.take, "an export reads back");
+        law(slots.totals == Longs({o.iks, o.smallest, o.largest}), "its totals");
+        law(exported(again, m) == whole, "the export of an export is the export");
     }
 
     // e) "writes the older edition, 10 bytes shorter than the export .. then the export's bytes from its bone count on"
-    void older_reads_back(const Bytes &whole) {
-        const Bytes older = c.export_older_animation(a, whole.size() - 10);
+    void older_reads_back(Manner m, const Bytes &whole) {
+        const Bytes older = c.export_older_animation(a, m, whole.size() - 10);
+        const Take &t = a.in(m).take();
         if (older.empty()) {
-            law(a.take().model.size() > 10 && read_header(a.bytes).width == 20, "15 is for newer files alone");
+            law(t.model.size() > 10 && read_header(a.bytes).width == 20, "15 is for newer files alone");
             return;
         }
         law(std::equal(older.begin() + 40, older.end(), whole.begin() + 50, whole.end()), "the export's bytes");
         const File again(older);
-        c.parse(again, (a.opening.property_places.size() + 15) / 16);
-        law(!again.refusal() && again.take() == a.take(), "the older edition reads back");
-        law(c.export_animation(again, whole.size()) == whole, "the export of the older edition is the export");
+        opened(again);
+        law(!again.in(m).refusal() && again.in(m).take() == t, "the older edition reads back");
+        law(c.export_animation(again, m, whole.size()) == whole, "the export of the older edition is the export");
     }
 
     // e) "What an older file must read as is the Rust's reading after its header is widened to 50 bytes: the newer magic, and
     // the 10 name bytes with 10 zeros after them."
-    void widened() {
+    void widened(Manner m) {
         Bytes wide_header(newer_magic.begin(), newer_magic.end());
         wide_header.insert(wide_header.end(), a.bytes.begin() + 30, a.bytes.begin() + 40);
         wide_header.insert(wide_header.end(), 10, u8{0});
         wide_header.insert(wide_header.end(), a.bytes.begin() + 40, a.bytes.end());
         const File newer(wide_header);
-        law(newer.refusal() == a.refusal(), "an older file is refused as the widened one");
-        const u64 needed = (a.opening.property_places.size() + 15) / 16, exact = a.refusal() ? 0 : canonical_size(a.take());
-        OpenSlots of_a = c.parse(a, needed), of_newer = c.parse(newer, needed);
-        law(c.export_animation(a, exact) == c.export_animation(newer, exact), "an older file reads as the widened one");
-        if (a.refusal()) return;
+        const Reading &read = a.in(m);
+        law(newer.in(m).refusal() == read.refusal(), "an older file is refused as the widened one");
+        const u64 needed = places_for(read.opening), exact = read.refusal() ? 0 : canonical_size(read.take());
+        OpenSlots of_a = c.parse(a, m, needed), of_newer = c.parse(newer, m, needed);
+        law(c.export_animation(a, m, exact) == c.export_animation(newer, m, exact), "an older file reads as the widened one");
+        if (read.refusal()) return;
         for (u64 &place : of_a.places) place += 10;
         for (u64 &place : of_a.scratch) place += 10;
         law(of_a.places == of_newer.places && of_a.scratch == of_newer.scratch, "places are those of the file as it is");
@@ -277,96 +405,121 @@ struct Case {
     void every_cut() {
         for (std::size_t n = 0; n < a.bytes.size() && n < 1500; n++) {
             const File cut(Bytes(a.bytes.begin(), a.bytes.begin() + static_cast<std::ptrdiff_t>(n)));
-            c.parse(cut, (cut.opening.property_places.size() + 15) / 16);
+            const Reading &read = cut.in(Manner::lenient);
+            const u64 exact = read.refusal() ? 80 : canonical_size(read.take());
+            in_both([&](Manner m) { c.parse(cut, m, places_for(read.opening)); });
+            in_both([&](Manner m) { c.export_animation(cut, m, exact); });
             c.model_name(cut);
-            c.export_animation(cut, cut.refusal() ? 80 : canonical_size(cut.take()));
         }
     }
 
     // ---- joining
 
-    void joining() {
-        c.joined_model(a, b);
-        c.join_size(a, b);
-        const bool fits = !a.refusal() && !b.refusal();
-        const u64 exact = fits ? canonical_size(join(a.take(), b.take())) : r.below(200);
-        c.join_animations(a, b, some_length(exact));
-        if (r.one_in(4)) c.join_animations(b, a, some_length(exact)), c.join_size(b, a), c.joined_model(b, a);
-        if (r.one_in(16)) c.join_with_itself(a, a.refusal() ? 0 : canonical_size(join(a.take(), a.take())));
+    // What reading alone answers.
+    u64 strict_answer(const File &f) {
+        c.export_size(f, Manner::strict);
+        return c.left.answer;
     }
 
-    void join_reads_back() {
-        const File joined(c.join_animations(a, b, canonical_size(join(a.take(), b.take()))));
-        const OpenSlots o = c.parse(joined, (joined.opening.property_places.size() + 15) / 16);
-        law(!joined.refusal() && joined.take() == join(a.take(), b.take()), "a join reads back");
-        law(o.totals[VMD_TOTAL_SMALLEST_FRAME] == joined_smallest(a.opening, b.opening), "the smallest frame of a join");
-        law(o.totals[VMD_TOTAL_LARGEST_FRAME] == std::max(a.opening.largest, b.opening.largest), "the largest of a join");
-        tidy_of_join(joined);
+    // "Joining: first file, second file, 11, 13.": a file's strict numbers stand where its others do
+    template <class F> void join_both(const File &f, const File &g, F call) {
+        const u64 of_f = strict_answer(f), of_g = strict_answer(g);
+        lend_both(call);
+        law(strict.answer == (of_f ? of_f : of_g ? of_g : c.left.answer), "the first file's number, then the second's");
+        if (!of_f && !of_g) law(strict.lent == c.left.lent, "a strict join is the lenient one");
+        count_join(of_f, of_g);
+    }
+
+    void joining() {
+        const Reading &x = a.in(Manner::lenient), &y = b.in(Manner::lenient);
+        const u64 exact = !x.refusal() && !y.refusal() ? canonical_size(join(x.take(), y.take())) : r.below(200);
+        const std::size_t n = some_length(exact), turned = some_length(exact);
+        c.joined_model(a, b);
+        join_both(a, b, [&](Manner m) { c.join_size(a, b, m); });
+        join_both(a, b, [&](Manner m) { c.join_animations(a, b, m, n); });
+        if (r.one_in(4)) {
+            join_both(b, a, [&](Manner m) { c.join_animations(b, a, m, turned); });
+            join_both(b, a, [&](Manner m) { c.join_size(b, a, m); });
+            c.joined_model(b, a);
+        }
+        const u64 twice = x.refusal() ? 0 : canonical_size(join(x.take(), x.take()));
+        if (r.one_in(16)) join_both(a, a, [&](Manner m) { c.join_with_itself(a, m, twice); });
+    }
+
+    void join_reads_back(Manner m) {
+        const Opening &x = a.in(m).opening, &y = b.in(m).opening;
+        const File joined(c.join_animations(a, b, m, canonical_size(join(x.take, y.take))));
+        const OpenSlots o = opened(joined);
+        law(!joined.in(m).refusal() && joined.in(m).take() == join(x.take, y.take), "a join reads back");
+        law(o.totals[VMD_TOTAL_SMALLEST_FRAME] == joined_smallest(x, y), "the smallest frame of a join");
+        law(o.totals[VMD_TOTAL_LARGEST_FRAME] == std::max(x.largest, y.largest), "the largest of a join");
+        tidy_of_join(m, joined);
     }
 
     // "joining any of them, on either side, with an accepted take of no records and no model name gives the other's export"
-    void unit() {
-        const File empty(dress(r, Take()));
-        c.parse(empty, 0);
-        law(!empty.refusal(), "the empty take is accepted");
-        const u64 exact = canonical_size(a.take());
-        const Bytes whole = c.export_animation(a, exact);
-        law(c.join_animations(a, empty, exact) == whole, "the empty take on the right");
-        law(c.join_animations(empty, a, exact) == whole, "the empty take on the left");
+    void unit(Manner m) {
+        const File empty(dress(r, Take(), m));
+        c.parse(empty, m, 0);
+        law(!empty.in(m).refusal(), "the empty take is accepted");
+        const Bytes whole = exported(a, m);
+        law(c.join_animations(a, empty, m, whole.size()) == whole, "the empty take on the right");
+        law(c.join_animations(empty, a, m, whole.size()) == whole, "the empty take on the left");
     }
 
     // "joining the first two and then the third gives the same bytes as joining the first with the join of the other two"
-    void associativity() {
-        const u64 exact = canonical_size(a.take()) + canonical_size(b.take()) + canonical_size(d.take()) - 2 * 74;
-        const File left(c.join_animations(a, b, exact)), right(c.join_animations(b, d, exact));
-        law(c.join_animations(left, d, exact) == c.join_animations(a, right, exact), "joining is associative");
+    void associativity(Manner m) {
+        const auto size = [m](const File &f) { return canonical_size(f.in(m).take()); };
+        const u64 exact = size(a) + size(b) + size(d) - 2 * 74;
+        const File left(c.join_animations(a, b, m, exact)), right(c.join_animations(b, d, m, exact));
+        law(c.join_animations(left, d, m, exact) == c.join_animations(a, right, m, exact), "joining is associative");
     }
 
     // "two have equal exports exactly when their records and model names are equal"
-    void equality() {
-        const u64 exact = canonical_size(a.take());
-        const Bytes whole = c.export_animation(a, exact);
-        const File twin(dress(r, a.take()));
-        c.parse(twin, (a.opening.property_places.size() + 15) / 16);
-        law(!twin.refusal(), "a take in other bytes is accepted");
-        law(c.export_animation(twin, exact) == whole, "equal records have equal exports");
-        same_season(twin);
+    void equality(Manner m) {
+        const Take &t = a.in(m).take();
+        const Bytes whole = exported(a, m);
+        const File twin(dress(r, t, m));
+        c.parse(twin, m, places_for(a.in(m).opening));
+        law(!twin.in(m).refusal(), "a take in other bytes is accepted");
+        law(c.export_animation(twin, m, whole.size()) == whole, "equal records have equal exports");
+        same_season(t);
         Bytes other = a.bytes;
         other[r.below(other.size())] ^= static_cast<u8>(1 << r.below(8));
-        const File near(other);
-        const Bytes of_near = c.export_animation(near, near.refusal() ? 0 : canonical_size(near.take()));
-        if (!near.refusal()) law((of_near == whole) == (near.take() == a.take()), "equal exports are of equal records");
-        if (b.refusal()) return;
-        const Bytes of_b = c.export_animation(b, canonical_size(b.take()));
-        law((of_b == whole) == (b.take() == a.take()), "equal exports are of equal records");
+        for (const File &near : {File(other), b}) {
+            const Bytes of_near = exported(near, m);
+            if (near.in(m).refusal()) continue;
+            law((of_near == whole) == (near.in(m).take() == t), "equal exports are of equal records");
+        }
     }
 
     // ---- tidying
 
-    u64 largest_section(const File &f) const {
-        const auto counts = f.opening.counts;
+    static u64 largest_section(const Reading &read) {
+        const auto counts = read.opening.counts;
         return *std::max_element(counts.begin(), counts.end());
     }
-    Bytes tidied(const File &f) { return c.tidy_animation(f, largest_section(f), canonical_size(f.take())); }
+    Bytes tidied(const File &f, Manner m) {
+        return c.tidy_animation(f, m, largest_section(f.in(m)), canonical_size(f.in(m).take()));
+    }
 
     void tidying() {
-        const u64 places = a.refusal() ? r.below(9) : largest_section(a);
-        const u64 exact = a.refusal() ? r.below(200) : canonical_size(model::tidied(a));
-        c.tidy_size(a, some_length(places));
-        // with a short output the library counts without scratch, which takes seconds where a take is long
-        c.tidy_animation(a, some_length(places), big ? exact : some_length(exact));
-        if (r.one_in(4)) c.tidy_animation(a, places + r.below(2), exact);
+        const Reading &read = a.in(Manner::lenient);
+        const u64 places = (read.refusal() ? r.below(9) : largest_section(read)) + r.below(2);
+        const u64 exact = read.refusal() ? r.below(200) : canonical_size(model::tidied(read));
+        if (r.one_in(4)) in_both([&](Manner m) { c.tidy_animation(a, m, places, exact); });
         // header: "A scratch of file_len / 9 places is enough for any file."
         if (r.one_in(8)) {
-            c.tidy_size(a, a.bytes.size() / 9);
-            law(now.answer != VMD_SCRATCH_TOO_SHORT, "scratch enough for any file of its length");
+            in_both([&](Manner m) { c.tidy_size(a, m, a.bytes.size() / 9); });
+            law(strict.answer != 3 && c.left.answer != 3, "scratch enough for any file of its length");
         }
     }
-    void tidy_twice() {
-        const File once(tidied(a));
-        if (!big) law(once.bytes == canonical(tidy_by_definition(a.take())), "dropped is what a later record replaces");
-        law(tidied(once) == once.bytes, "tidying twice is tidying once");
-        law(once.bytes.size() <= canonical_size(a.take()), "a tidied file is never longer than the export");
+    void tidy_twice(Manner m) {
+        const File once(tidied(a, m));
+        const Take &t = a.in(m).take();
+        opened(once);
+        if (!big) law(once.bytes == canonical(tidy_by_definition(t)), "dropped is what a later record replaces");
+        law(tidied(once, m) == once.bytes, "tidying twice is tidying once");
+        law(once.bytes.size() <= canonical_size(t), "a tidied file is never longer than the export");
     }
 
     // g) "Dropped records are those with a later record of the same track and frame.", said of each record, and the order said
@@ -393,23 +546,23 @@ struct Case {
     }
 
     // g) "tidying a join, where its counts fit 32 bits, equals tidying the join of the two tidied takes"
-    void tidy_of_join(const File &joined) {
-        const File left(tidied(a)), right(tidied(b));
-        const u64 exact = canonical_size(joined.take());
-        const File of_tidied(c.join_animations(left, right, exact));
-        law(tidied(joined) == tidied(of_tidied), "tidying a join");
+    void tidy_of_join(Manner m, const File &joined) {
+        const File left(tidied(a, m)), right(tidied(b, m));
+        const u64 exact = canonical_size(joined.in(m).take());
+        const File of_tidied(c.join_animations(left, right, m, exact));
+        law(tidied(joined, m) == tidied(of_tidied, m), "tidying a join");
     }
 
     // ---- parts
 
     // One or two buffers too short, or all long enough.
-    Parts buffer_lengths(const Parts &needed, bool enough) {
+    Parts buffer_lengths(const Parts &needed, const Take &t, bool enough) {
         Parts lengths = needed;
         pairwise(lengths, needed, [&](auto &length, const auto &) {
             if (r.one_in(4)) length.resize(length.size() + 1 + r.below(30));
         });
         // header: "With such tables no names are counted first."
-        const u64 b_ = a.take().bones.size(), m_ = a.take().morphs.size();
+        const u64 b_ = t.bones.size(), m_ = t.morphs.size();
         if (r.one_in(2)) lengths.bone_bytes.resize(15 * b_ + r.below(2)), lengths.bone_ends.resize(b_ + r.below(2));
         if (r.one_in(2)) lengths.morph_bytes.resize(15 * m_ + r.below(2)), lengths.morph_ends.resize(m_ + r.below(2));
         if (enough) return lengths;
@@ -422,27 +575,25 @@ struct Case {
         return lengths;
     }
 
-    void splitting() {
-        c.split_sizes(a);
-        const Parts needed = a.refusal() ? Parts() : parts(a);
-        if (a.refusal() || r.one_in(2)) c.split_animation(a, buffer_lengths(needed, false));
-        if (a.refusal()) return;
-        const Parts lengths = buffer_lengths(needed, true);
-        law(c.split_animation(a, lengths) == 0, "buffers long enough");
+    void splitting(Manner m) {
+        const Take &t = a.in(m).take();
+        const Parts needed = parts(a, a.in(m));
+        const Parts lengths = buffer_lengths(needed, t, true);
+        law(c.split_animation(a, m, lengths) == 0, "buffers long enough");
         Parts got = c.parts_written(needed);
-        got.model.assign(a.take().model.begin(), a.take().model.end());
-        parts_build(got);
+        got.model.assign(t.model.begin(), t.model.end());
+        parts_build(m, got);
     }
 
     // a) "Building from these parts gives the file's export, provided every name, float and self-shadow mode passes the
     // builder."
-    void parts_build(const Parts &got) {
+    void parts_build(Manner m, const Parts &got) {
         Take t;
         const bool passes = build(got, t) == 0;
-        const u64 exact = canonical_size(a.take());
+        const u64 exact = canonical_size(a.in(m).take());
         c.build_size(got);
         const Bytes built = c.build_animation(got, exact);
-        if (passes) law(built == c.export_animation(a, exact), "the parts build the export");
+        if (passes) law(built == c.export_animation(a, m, exact), "the parts build the export");
         else law(built.empty(), "parts that do not pass are turned down");
     }
 
@@ -451,7 +602,10 @@ struct Case {
         Take t;
         const u64 exact = build(p, t) ? 600 : canonical_size(t);
         c.build_size(p);
-        c.build_animation(p, some_length(exact));
+        const File built(c.build_animation(p, some_length(exact)));
+        if (built.bytes.empty() || !sometimes(3)) return;
+        opened(built);
+        law(c.export_animation(built, Manner::strict, exact) == built.bytes, "what is built is its own strict export");
     }
 
     void names() {
@@ -465,7 +619,8 @@ struct Case {
             for (const Name &name : {good_name(r, 15), bad_name(r, 15), two, "A" + two})
                 c.first_fault(Bytes(name.begin(), name.end()));
         }
-        c.first_fault(Bytes(a.take().model.begin(), a.take().model.end()));
+        const Name &own = a.in(Manner::lenient).take().model;
+        c.first_fault(Bytes(own.begin(), own.end()));
     }
 
     // ---- season figures
@@ -479,24 +634,26 @@ struct Case {
         season_limits();
     }
 
-    // b) said of the whole list, not of one take after another
+    // b) said of the whole list, not of one take after another; i) in the lenient manner
     void season_definition() {
         Longs figures(11, 0);
         Words counts(12, 0);
+        const std::vector<const File *> list = {&a, &b, &d};
+        const auto read = [](const File *f) -> const Reading & { return f->in(Manner::lenient); };
         for (int s = 0; s < 6; s++) {
             Words of_section;
-            for (const File *f : {&a, &b, &d})
-                if (!f->refusal()) of_section.push_back(f->opening.counts[s]);
+            for (const File *f : list)
+                if (!read(f).refusal()) of_section.push_back(read(f).opening.counts[s]);
             for (u32 count : of_section) figures[VMD_SEASON_TOTAL + s] += count, figures[VMD_SEASON_RECORDS] += count;
             if (of_section.empty()) continue;
             counts[VMD_SEASON_SMALLEST + s] = *std::min_element(of_section.begin(), of_section.end());
             counts[VMD_SEASON_LARGEST + s] = *std::max_element(of_section.begin(), of_section.end());
         }
-        for (const File *f : {&a, &b, &d}) {
-            figures[f->refusal() ? VMD_SEASON_REFUSED : VMD_SEASON_ACCEPTED]++;
-            if (f->refusal()) continue;
-            figures[VMD_SEASON_BONE_NAMES] += parts(*f).bone_ends.size();
-            figures[VMD_SEASON_MORPH_NAMES] += parts(*f).morph_ends.size();
+        for (const File *f : list) {
+            figures[read(f).refusal() ? VMD_SEASON_REFUSED : VMD_SEASON_ACCEPTED]++;
+            if (read(f).refusal()) continue;
+            figures[VMD_SEASON_BONE_NAMES] += parts(*f, read(f)).bone_ends.size();
+            figures[VMD_SEASON_MORPH_NAMES] += parts(*f, read(f)).morph_ends.size();
         }
         law(c.figures.now_there(11) == figures && c.season_counts.now_there(12) == counts, "the season's definition");
         const u64 n = figures[VMD_SEASON_ACCEPTED], total = figures[VMD_SEASON_RECORDS];
@@ -522,11 +679,10 @@ struct Case {
     }
 
     // b) "Takes that differ only in interpolation bytes or in bytes after a name's first zero byte give equal figures."
-    void same_season(const File &twin) {
-        Take t = twin.take();
+    void same_season(Take t) {
         for (Bone &bone : t.bones) bone.interpolation = some_bytes<64>(r);
         for (Camera &camera : t.cameras) camera.interpolation = some_bytes<24>(r);
-        const File other(dress(r, t));
+        const File other(dress(r, t, Manner::lenient));
         c.season_none();
         c.season_add(a);
         const Longs figures = c.figures.now_there(11);
@@ -596,7 +752,8 @@ static void report(const Disagreement &d, const Neighbours &files, Calls &calls)
     report_lent(calls);
     for (int i = 2; i >= 0; i--) {
         const Bytes &f = files.files[i].bytes;
-        std::printf("  take %d: %zu bytes, refusal %d", 2 - i, f.size(), files.files[i].refusal());
+        std::printf("  take %d: %zu bytes, strict %d, lenient %d", 2 - i, f.size(), files.files[i].in(Manner::strict).refusal(),
+                    files.files[i].in(Manner::lenient).refusal());
         std::printf("%s%s\n", f.size() <= 600 ? ": " : "", f.size() <= 600 ? hex(f).c_str() : "");
     }
     std::fflush(stdout);
@@ -612,9 +769,10 @@ static std::optional<std::string> run_case(Calls &calls, Neighbours &files, u64 
     calls.r = Rng(draws.next());
     calls.first.serial = calls.second.serial = 0; // lent anew, so that a case alone has the same memory
     const File &a = files.files[2];
-    (a.refusal() ? now.refused : now.accepted)++;
+    now.takes++;
+    for (int i = 0; i < 2; i++) now.accepted_in[i] += a.in(manners[i]).refusal() ? 0 : 1;
     try {
-        Case{calls, draws, a, files.files[1], files.files[0], is_big(n)}.run();
+        Case{calls, draws, a, files.files[1], files.files[0], is_big(n), {}}.run();
         return {};
     } catch (const Disagreement &d) {
         if (tell) report(d, files, calls);
@@ -624,12 +782,12 @@ static std::optional<std::string> run_case(Calls &calls, Neighbours &files, u64 
 
 // How often each call gave each number, so that a run can be seen to reach them all.
 static void print_answers() {
-    std::map<std::string, std::array<u64, 16>> by_name;
+    std::map<std::string, std::array<u64, numbers_end>> by_name;
     for (const auto &entry : now.answers)
-        for (std::size_t i = 0; i < 16; i++) by_name[entry.first][i] += entry.second[i];
+        for (std::size_t i = 0; i < numbers_end; i++) by_name[entry.first][i] += entry.second[i];
     for (const auto &entry : by_name) {
         std::printf("%s gave", entry.first.c_str());
-        for (std::size_t i = 0; i < 16; i++)
+        for (std::size_t i = 0; i < numbers_end; i++)
             if (entry.second[i]) std::printf(" %zu: %llu,", i, wide_number(entry.second[i]));
         std::printf("\n");
     }
@@ -649,21 +807,36 @@ static PairsMet print_pairs() {
     return fewest;
 }
 
+// i) How often each case was met that the strict manner turns down, or that is near it; gives the smallest number.
+static u64 print_strict() {
+    u64 fewest = ~u64{0};
+    for (const auto &entry : now.strict) {
+        std::printf("strict, %s: %llu\n", entry.first.c_str(), wide_number(entry.second));
+        fewest = std::min(fewest, entry.second);
+    }
+    return fewest;
+}
+
 static int run(u64 count, u64 seed, u64 from) {
     Calls calls;
     Neighbours files;
     u64 found = 0;
+    begin_strict();
     for (u64 n = from; n < from + count && found < 10; n++) {
         if (n % 256 == 0 || is_big(n) || is_big(n - 1)) alarm(300);
         if (run_case(calls, files, seed, n, true)) found++;
     }
     print_answers();
     const PairsMet fewest = print_pairs();
-    const bool too_few = !found && count >= 1000 && std::min(fewest.taken, fewest.turned_down) < count / 100;
-    std::printf("model: %llu takes (%llu accepted, %llu refused), %llu calls, %llu disagreements; names with pairs in each "
-                "place: at least %llu taken, %llu turned down%s\n",
-                wide_number(now.accepted + now.refused), wide_number(now.accepted), wide_number(now.refused),
-                wide_number(now.calls), wide_number(found), wide_number(fewest.taken), wide_number(fewest.turned_down),
+    const u64 fewest_strict = print_strict();
+    const bool few_pairs = std::min(fewest.taken, fewest.turned_down) < count / 100, few_strict = fewest_strict < count / 500;
+    const bool too_few = !found && ((count >= 1000 && few_pairs) || (count >= 10000 && few_strict));
+    std::printf("model: %llu takes (%llu accepted strict, %llu lenient), %llu calls (%llu strict, %llu lenient), %llu "
+                "disagreements; names with pairs in each place: at least %llu taken, %llu turned down; cases of the strict "
+                "manner: %zu, each at least %llu times%s\n",
+                wide_number(now.takes), wide_number(now.accepted_in[0]), wide_number(now.accepted_in[1]),
+                wide_number(now.calls), wide_number(now.calls_in[0]), wide_number(now.calls_in[1]), wide_number(found),
+                wide_number(fewest.taken), wide_number(fewest.turned_down), now.strict.size(), wide_number(fewest_strict),
                 too_few ? ", TOO FEW" : "");
     return found || too_few ? 1 : 0;
 }
@@ -749,6 +922,7 @@ static int huge() {
     alarm(1800);
     fixed::huge_file();
     fixed::huge_join();
+    fixed::huge_oversized();
     fixed::huge_build();
     std::printf("model: sections of 2^31 to 2^32 records, 0 disagreements\n");
     return 0;

@@ -1,7 +1,8 @@
-// A model of the file library, written from document 01 (the base) and requests a) to h) of document 02. Quoted sentences are
+// A model of the file library, written from document 01 (the base) and requests a) to i) of document 02. Quoted sentences are
 // theirs; "header:" marks those of the C interface. It works on lists, copies everything, and is made to be compared with the
 // papers, not to be fast. A function named as a call of the C interface takes the contents of every buffer lent and changes
-// them into the contents after the call; where it returns a refusal it has changed nothing.
+// them into the contents after the call; where it returns a refusal it has changed nothing. One of a call that reads a whole
+// take is lent the manner too, and so is the model of both twins.
 #ifndef MODEL_HPP
 #define MODEL_HPP
 
@@ -215,8 +216,24 @@ inline Header read_header(const Bytes &f) {
 
 // ---- reading a whole file
 
+// i) "Strict opening by default."; "accepted in the lenient manner and is 17 in the strict one". header: a call without a
+// manner in its name is strict, and one whose name ends in _lenient stands beside it.
+enum class Manner { strict, lenient };
+constexpr Manner manners[] = {Manner::strict, Manner::lenient};
+
+// Where reading came to its end, and with which number. The rest is for counting what a run met, and for the laws of files
+// that are turned down.
+struct Stop {
+    int refusal = 0;    // 0, 1, 2, 16 or 17
+    int section = 0;    // at which it came to its end
+    bool there = false; // whether the section's count is, whole
+    u32 count = 0;
+    u64 left = 0;      // bytes after an oversized count, or after the last property frame
+    bool walk = false; // the file ended in the property frames, for which it had nine bytes each
+};
+
 struct Opening {
-    int refusal = 0; // 0, 1 or 2
+    Stop stop;
     std::array<u32, 6> counts{};
     std::array<u64, 6> places{};
     u64 iks = 0;
@@ -285,56 +302,122 @@ inline std::optional<u64> read_properties(const Bytes &f, u64 at, u32 count, Ope
     return at;
 }
 
-// "At any later count, no bytes left means that this section and all after it are empty. One to three bytes left is refusal
-// 1."; "The bone count is required"; "A bone, morph, property or IK count whose records exceed the bytes left is refusal 1.";
-// "A camera, light or self-shadow count that exceeds the bytes left is accepted: that section is empty, the reader goes to the
-// end, so later sections are empty too."; "Bytes after the last property frame are ignored."
-inline int read_sections(const Bytes &f, u64 at, Opening &o) {
+// "A bone, morph, property or IK count whose records exceed the bytes left is refusal 1."; "A camera, light or self-shadow
+// count that exceeds the bytes left is accepted: that section is empty, the reader goes to the end, so later sections are empty
+// too."; i) "17 an oversized camera, light or self-shadow count". "The Rust's reading is what the lenient manner gives".
+inline int oversized(int s, u32 count, u64 left, Manner manner) {
+    const bool strict = manner == Manner::strict;
+    if (strict && altered(StrictBonesAre17) && s == bones) return 17;
+    if (strict && altered(StrictMorphsAre17) && s == morphs) return 17;
+    if (strict && altered(StrictPropertiesAre17) && s == properties) return 17;
+    if (s < cameras || s == properties) return 1;
+    if (altered(OversizedCameraRefused) && s == cameras) return 1;
+    if (altered(OversizedShadowRefused) && s == shadows) return 1;
+    if (altered(LenientLights17) && s == lights) return 17;
+    if (!strict) return 0;
+    if (altered(StrictCamerasEmptied) && s == cameras) return 0;
+    if (altered(StrictLightsEmptied) && s == lights) return 0;
+    if (altered(StrictShadowsEmptied) && s == shadows) return 0;
+    if (altered(StrictLargestEmptied) && count == 0xFFFFFFFF) return 0;
+    if (altered(StrictOneRecordMore) && count == left / record_size[s] + 1) return 0;
+    if (altered(StrictOneByteShort) && count * record_size[s] == left + 1) return 0;
+    if (altered(StrictNothingBehind) && left == 0) return 0;
+    if (altered(StrictOversizedIs1)) return 1;
+    return altered(StrictNumbersSwapped) ? 16 : 17;
+}
+
+// "Bytes after the last property frame are ignored."; i) "16 bytes after the last property frame, or after its count of 0"
+inline int bytes_over(const Bytes &f, u64 end, u32 count, Manner manner) {
+    const u64 over = f.size() - end;
+    if (over == 0) return 0;
+    if (altered(BytesOverRefused)) return 1;
+    if (altered(LenientOver16)) return 16;
+    if (manner == Manner::lenient) return 0;
+    if (altered(StrictOverAfterFrames) && count == 0) return 0;
+    if (altered(StrictOverAfterNone) && count > 0) return 0;
+    if (altered(StrictOneByteOver) && over == 1) return 0;
+    if (altered(StrictThreeBytesOver) && over <= 3) return 0;
+    if (altered(StrictZeroByteOver) && over == 1 && f.back() == 0) return 0;
+    const auto zero = [](u8 b) { return b == 0; };
+    if (altered(StrictZerosOver) && std::all_of(f.begin() + static_cast<std::ptrdiff_t>(end), f.end(), zero)) return 0;
+    if (altered(StrictOverIs1)) return 1;
+    return altered(StrictNumbersSwapped) ? 17 : 16;
+}
+
+// "The bone count is required"; "At any later count, no bytes left means that this section and all after it are empty. One to
+// three bytes left is refusal 1." i) has nothing of missing counts: they are accepted in both manners.
+inline int cut_count(int s, u64 left, Manner manner) {
+    const bool strict = manner == Manner::strict, whole = s > bones || altered(BoneCountOptional);
+    if (left == 0 && whole) return altered(StrictMissingRefused) && strict ? 1 : 0;
+    if (altered(ThreeBytesAreNone) && s > bones) return 0;
+    return altered(StrictCutCountIs17) && strict && s >= cameras && s <= shadows ? 17 : 1;
+}
+
+// "each a u32 count, then records"; i) "both as met in the file": a number is given where its cause is met, and nothing after
+// it is looked at.
+inline Stop read_sections(const Bytes &f, u64 at, Manner manner, Opening &o) {
+    const bool strict = manner == Manner::strict;
     for (int s = bones; s <= properties; s++) {
-        const u64 left = f.size() - at;
-        if (left == 0 && (s > bones || altered(BoneCountOptional))) return 0;
-        if (left < 4) return altered(ThreeBytesAreNone) && s > bones ? 0 : 1;
+        u64 left = f.size() - at;
+        if (left < 4) return {cut_count(s, left, manner), s, false, 0, left, false};
         const u32 count = number(f, at);
-        at += 4;
-        if (u64{count} * record_size[s] > left - 4) {
-            if (s < cameras || s == properties) return 1;
-            if (altered(OversizedCameraRefused) && s == cameras) return 1;
-            if (altered(OversizedShadowRefused) && s == shadows) return 1;
+        at += 4, left -= 4;
+        if (u64{count} * record_size[s] > left) {
             if (altered(EmptiedPlaceKept)) o.places[s] = at;
-            if (altered(LightsAfterOversized) && s == cameras) continue;
-            return 0;
+            if (altered(LightsAfterOversized) && s == cameras && !strict) continue;
+            return {oversized(s, count, left, manner), s, true, count, left, false};
         }
         o.counts[s] = count;
         // "A section's place is just after its count"
         o.places[s] = altered(PlaceBeforeCount) ? at - 4 : at;
         if (s == properties) {
             const auto end = read_properties(f, at, count, o);
-            if (!end || (altered(BytesOverRefused) && *end != f.size())) return 1;
-        } else {
-            read_records(f, s, at, count, o.take);
-            at += u64{count} * record_size[s];
+            if (end) return {bytes_over(f, *end, count, manner), s, true, count, f.size() - *end, false};
+            const bool early = altered(StrictOverBefore1) && strict && left > 9 * u64{count};
+            return {early ? 16 : altered(StrictIksAre17) && strict ? 17 : 1, s, true, count, 0, true};
         }
+        read_records(f, s, at, count, o.take);
+        at += u64{count} * record_size[s];
     }
-    return 0;
+    return {};
 }
 
 // Of a refused file nothing is read: "the number only".
-inline Opening refused(int number_) {
+inline Opening refused(const Stop &stop) {
     Opening o;
-    o.refusal = number_;
+    o.stop = stop;
     return o;
 }
 
+// Errors of the order, for altered models alone: whether 16 or 17 is given in place of a 2, or of a 1 that is met first.
+inline int strict_too_early(const Bytes &f, u64 at, const Stop &stop) {
+    const bool two = altered(StrictBefore2) && stop.refusal == 2 && f.size() >= 50;
+    const bool one = altered(StrictOversizedBefore1) && stop.refusal == 1 && stop.section < cameras && stop.there;
+    if (!two && !one) return 0;
+    Bytes other = f;
+    if (one) std::fill_n(other.end() - static_cast<std::ptrdiff_t>(stop.left) - 4, 4, u8{0}); // the count, as if it were 0
+    if (two) at = 50;
+    Opening ignored;
+    const int refusal = read_sections(other, at, Manner::strict, ignored).refusal;
+    return refusal >= 16 ? refusal : 0;
+}
+
 // "Opening checks a whole file and gives six counts, the number of IK states, largest frame and section places."
-inline Opening open(const Bytes &f) {
+inline Opening open(const Bytes &f, Manner manner) {
     const Header header = read_header(f);
-    if (header.refusal) return refused(header.refusal);
+    if (altered(OlderFilesStrict) && header.width == 10) manner = Manner::strict;
+    if (altered(OlderFilesLenient) && header.width == 10) manner = Manner::lenient;
     Opening o;
-    o.take.model = name(f, model_place, header.width);
-    // "or the file's length where the count is missing or the section was emptied"
-    o.places.fill(altered(MissingPlaceZero) ? 0 : f.size());
-    o.refusal = read_sections(f, model_place + header.width, o);
-    if (o.refusal) return refused(o.refusal);
+    o.stop.refusal = header.refusal;
+    if (!header.refusal) {
+        o.take.model = name(f, model_place, header.width);
+        // "or the file's length where the count is missing or the section was emptied"
+        o.places.fill(altered(MissingPlaceZero) ? 0 : f.size());
+        o.stop = read_sections(f, model_place + header.width, manner, o);
+    }
+    if (manner == Manner::strict)
+        if (const int early = strict_too_early(f, model_place + header.width, o.stop)) o.stop.refusal = early;
+    if (o.stop.refusal) return refused(o.stop);
     for (const Property &p : o.take.properties) o.iks = p.iks.size() + (altered(IkOfLastFrame) ? 0 : o.iks);
     const std::vector<Words> all = frames(o.take);
     o.smallest = smallest_frame(all);
@@ -357,22 +440,50 @@ struct Parts {
     Words morph_indices, morph_frames, weights;
 };
 
-// A file and what opening it reads; a call takes it as the bytes that are lent.
-struct File {
-    Bytes bytes;
+// What opening a file in one manner reads.
+struct Reading {
     Opening opening;
-    u64 serial;
     // worked out once, where they are asked for: see exported, tidied and parts
     mutable std::optional<Bytes> its_export;
     mutable std::optional<Take> its_tidied;
     mutable std::optional<Parts> its_parts;
-    explicit File(Bytes contents) : bytes(std::move(contents)), opening(open(bytes)) {
+    const Take &take() const { return opening.take; }
+    int refusal() const { return opening.stop.refusal; }
+};
+
+// A file; a call takes it as the bytes that are lent, and reads it in a manner.
+struct File {
+    Bytes bytes;
+    u64 serial;
+    mutable std::array<std::optional<Reading>, 2> readings;
+    explicit File(Bytes contents) : bytes(std::move(contents)) {
         static u64 last = 0;
         serial = ++last;
     }
-    const Take &take() const { return opening.take; }
-    int refusal() const { return opening.refusal; }
+    const Reading &in(Manner manner) const {
+        auto &reading = readings[manner == Manner::strict ? 0 : 1];
+        if (!reading) reading = Reading{open(bytes, manner), {}, {}, {}};
+        return *reading;
+    }
 };
+
+// The calls that read a whole take in either manner (header: those that have a twin). Altered models alone ask which it is.
+enum class Call { parse, export_size, exporting, older_size, older, join_size, join, tidy_size, tidy, split_sizes, split };
+static_assert(StrictSplitLenient - StrictParseLenient == static_cast<int>(Call::split), "an alteration for each call");
+static_assert(LenientSplitStrict - LenientParseStrict == static_cast<int>(Call::split), "and one for each twin");
+
+// i) "Every call that reads a whole take without a named manner, those of earlier requests included, now turns such files
+// down."
+inline const Reading &read(const File &f, Call call, Manner manner) {
+    if (alteration == StrictParseLenient + static_cast<int>(call)) return f.in(Manner::lenient);
+    if (alteration == LenientParseStrict + static_cast<int>(call)) return f.in(Manner::strict);
+    return f.in(manner);
+}
+
+// A 16 or 17 that an altered model tests later: the reading by which it goes on until then, else nothing.
+inline const Reading *late(Alteration which, const File &f, Manner manner) {
+    return altered(which) && f.in(manner).refusal() >= 16 ? &f.in(Manner::lenient) : nullptr;
+}
 
 // f) "Place j now holds the position of property frame 16j only"; "fewer than a sixteenth of the frames, rounded up"
 inline u64 frames_per_place() { return altered(ScratchEachEighth) ? 8 : 16; }
@@ -382,10 +493,15 @@ inline u64 places_needed(u64 property_frames) {
     return (property_frames + frames_per_place() - 1) / frames_per_place();
 }
 
-// "Opening: 1 and 2 as met, then 3."
-inline int parse_animation(const File &f, Longs &scratch, Words &counts, Longs &places, Longs &totals) {
-    const Opening &o = f.opening;
-    if (o.refusal) return o.refusal;
+// "Opening: 1 and 2 as met, then 3."; i) 16 and 17 "both as met in the file", so they stand where 1 and 2 do
+inline int parse_animation(const File &f, Manner manner, Longs &scratch, Words &counts, Longs &places, Longs &totals) {
+    const Opening &o = read(f, Call::parse, manner).opening;
+    if (const Reading *on = late(StrictParseAfter3, f, manner))
+        if (scratch.size() < places_needed(on->opening.property_places.size())) return 3;
+    if (const Reading *on = late(StrictScratchWritten, f, manner))
+        for (u64 j = 0; j < scratch.size() && 16 * j < on->opening.property_places.size(); j++)
+            scratch[j] = on->opening.property_places[16 * j];
+    if (o.stop.refusal) return o.stop.refusal;
     if (scratch.size() < places_needed(o.property_places.size())) return 3;
     // "receives the byte position .. first places first; further places keep their contents"
     for (u64 i = 0; i < o.property_places.size(); i += frames_per_place())
@@ -562,10 +678,12 @@ inline Longs ik_name(const Bytes &f, const Words &counts, const Longs &scratch, 
     return name_part(f, ik_place(f, counts, scratch, i, j), ik_name_width);
 }
 // "or for a model name whose header is refused, that part is empty"
+// header: "vmd_model_name and vmd_joined_model read no whole take and have no manner"
 inline Longs model_name(const Bytes &f) {
     const Header header = read_header(f);
     if (altered(ModelNameUntested) && header.refusal && f.size() >= 50) return name_part(f, model_place, 20);
-    if (altered(ModelNameOfAccepted) && open(f).refusal) return part(0, 0);
+    if (altered(ModelNameOfAccepted) && open(f, Manner::lenient).stop.refusal) return part(0, 0);
+    if (altered(ModelNameStrict) && open(f, Manner::strict).stop.refusal >= 16) return part(0, 0);
     return header.refusal ? part(0, 0) : name_part(f, model_place, header.width);
 }
 inline Longs bone_interpolation(const Bytes &f, const Words &counts, const Longs &places, u64 i) {
@@ -681,7 +799,7 @@ inline Bytes canonical_older(const Take &t) {
     return out;
 }
 
-inline const Bytes &exported(const File &f) {
+inline const Bytes &exported(const Reading &f) {
     if (!f.its_export) f.its_export = canonical(f.take());
     return *f.its_export;
 }
@@ -698,32 +816,45 @@ inline int save(const Bytes &whole, Bytes &out, Longs &written) {
     return 0;
 }
 
-// "Export: 1, 2, 13."
-inline int export_size(const File &f, Longs &size) {
+// "Export: 1, 2, 13."; i) as met
+inline int export_size(const File &file, Manner manner, Longs &size) {
+    const Reading &f = read(file, Call::export_size, manner);
+    if (const Reading *on = late(StrictSizeWritten, file, manner)) size = {canonical_size(on->take())};
     if (f.refusal()) return f.refusal();
     size = {canonical_size(f.take())};
     return 0;
 }
-inline int export_animation(const File &f, Bytes &out, Longs &written) {
+inline int export_animation(const File &file, Manner manner, Bytes &out, Longs &written) {
+    const Reading &f = read(file, Call::exporting, manner);
+    if (const Reading *on = late(StrictExportAfter13, file, manner))
+        if (out.size() < canonical_size(on->take())) return 13;
     if (f.refusal()) return f.refusal();
-    if (altered(OlderExported) && read_header(f.bytes).width == 10) return save(canonical_older(f.take()), out, written);
+    if (altered(OlderExported) && read_header(file.bytes).width == 10) return save(canonical_older(f.take()), out, written);
     return save(exported(f), out, written);
 }
 
 // e) "15 the model name is over 10 bytes, converter only, tested just before 13"
 inline u64 older_limit() { return altered(OlderLimit9) ? 9 : altered(OlderLimit11) ? 11 : 10; }
-inline int export_older_size(const File &f, Longs &size) {
+inline int export_older_size(const File &file, Manner manner, Longs &size) {
+    const Reading &f = read(file, Call::older_size, manner);
+    if (const Reading *on = late(StrictOlderAfter15, file, manner))
+        if (on->take().model.size() > older_limit()) return 15;
     if (f.refusal()) return f.refusal();
     if (f.take().model.size() > older_limit()) return 15;
     size = {canonical_size(f.take()) - 10};
     return 0;
 }
-inline int export_older_animation(const File &f, Bytes &out, Longs &written) {
+inline int export_older_animation(const File &file, Manner manner, Bytes &out, Longs &written) {
+    const Reading &f = read(file, Call::older, manner);
+    if (const Reading *on = late(StrictOlderAfter15, file, manner))
+        if (on->take().model.size() > older_limit()) return 15;
+    if (const Reading *on = late(StrictOlderAfter13, file, manner))
+        if (on->take().model.size() <= older_limit() && out.size() < canonical_size(on->take()) - 10) return 13;
     if (f.refusal()) return f.refusal();
     Bytes whole = canonical_older(f.take());
     if (altered(OlderAfter13) && out.size() < whole.size()) return 13;
     if (f.take().model.size() > older_limit()) return 15;
-    if (altered(OlderFieldKept)) std::copy(f.bytes.begin() + 26, f.bytes.begin() + 30, whole.begin() + 26);
+    if (altered(OlderFieldKept)) std::copy(file.bytes.begin() + 26, file.bytes.begin() + 30, whole.begin() + 26);
     return save(whole, out, written);
 }
 
@@ -748,29 +879,47 @@ inline Take join(const Take &first, const Take &second) {
     return joined;
 }
 
-// "Joining: first file, second file, 11, 13."; 11 is "a section count above 4,294,967,295"
-inline int join_refusal(const File &first, const File &second) {
-    if (altered(JoinSecondRefusedFirst) && second.refusal()) return second.refusal();
-    if (first.refusal()) return first.refusal();
-    if (second.refusal()) return second.refusal();
+// "Joining: first file, second file, 11, 13."; 11 is "a section count above 4,294,967,295". i) 16 and 17 are met in a file: all
+// of the first file's numbers stand before any of the second's.
+inline int join_refusal(const Reading &first, const Reading &second) {
+    const int of_first = first.refusal(), of_second = second.refusal();
+    if (altered(JoinSecondRefusedFirst) && of_second) return of_second;
+    if (altered(JoinSecondStrictFirst) && of_second >= 16) return of_second;
+    if (altered(JoinStrictLast) && of_first >= 16 && of_second) return of_second;
+    if (of_first) return of_first;
+    if (of_second) return of_second;
     for (int s = bones; s <= properties; s++)
         if (u64{first.opening.counts[s]} + second.opening.counts[s] > 0xFFFFFFFF) return 11;
     return 0;
 }
-inline int join_size(const File &first, const File &second, Longs &size) {
-    if (const int refusal = join_refusal(first, second)) return refusal;
-    size = {canonical_size(join(first.take(), second.take()))};
+// Both files are read in the call's manner.
+inline const Reading &read_first(const File &f, Call call, Manner manner) {
+    return read(f, call, altered(JoinFirstLenient) ? Manner::lenient : manner);
+}
+inline const Reading &read_second(const File &f, Call call, Manner manner) {
+    return read(f, call, altered(JoinSecondLenient) ? Manner::lenient : manner);
+}
+inline int join_size(const File &first, const File &second, Manner manner, Longs &size) {
+    const Reading &f = read_first(first, Call::join_size, manner), &g = read_second(second, Call::join_size, manner);
+    if (const int refusal = join_refusal(f, g)) return refusal;
+    size = {canonical_size(join(f.take(), g.take()))};
     return 0;
 }
-inline int join_animations(const File &first, const File &second, Bytes &out, Longs &written) {
-    if (const int refusal = join_refusal(first, second)) return refusal;
-    return save(canonical(join(first.take(), second.take())), out, written);
+inline int join_animations(const File &first, const File &second, Manner manner, Bytes &out, Longs &written) {
+    const Reading &f = read_first(first, Call::join, manner), &g = read_second(second, Call::join, manner);
+    if (altered(StrictJoinAfter13) && manner == Manner::strict) {
+        const Reading &on = first.in(Manner::lenient), &on_too = second.in(Manner::lenient);
+        if (!on.refusal() && !on_too.refusal() && out.size() < canonical_size(join(on.take(), on_too.take()))) return 13;
+    }
+    if (const int refusal = join_refusal(f, g)) return refusal;
+    return save(canonical(join(f.take(), g.take())), out, written);
 }
 
 // header: "which file it is in (0 the first, 1 the second), where it begins there, and its length; 0, 0, 0 where both are
 // empty"
 inline Longs joined_model(const Bytes &first, const Bytes &second) {
-    const Longs of_first = model_name(first), of_second = model_name(second);
+    const bool without = altered(JoinedModelStrict) && open(first, Manner::strict).stop.refusal >= 16;
+    const Longs of_first = without ? Longs{0, 0} : model_name(first), of_second = model_name(second);
     if (of_first[1] != 0) return {0, of_first[0], of_first[1]};
     if (of_second[1] != 0) return {1, of_second[0], of_second[1]};
     return {0, 0, 0};
@@ -848,7 +997,7 @@ inline Take tidy(const Take &t) {
     return after;
 }
 
-inline const Take &tidied(const File &f) {
+inline const Take &tidied(const Reading &f) {
     if (!f.its_tidied) f.its_tidied = tidy(f.take());
     return *f.its_tidied;
 }
@@ -877,7 +1026,10 @@ inline void tidy_done(const Take &t, const Take &after, Longs &scratch, Words &k
     std::fill_n(scratch.begin(), zeroed, u64{0});
 }
 
-inline int tidy_size(const File &f, Longs &scratch, Longs &size, Words &kept, Words &dropped) {
+inline int tidy_size(const File &file, Manner manner, Longs &scratch, Longs &size, Words &kept, Words &dropped) {
+    const Reading &f = read(file, Call::tidy_size, manner);
+    if (const Reading *on = late(StrictTidyAfter3, file, manner))
+        if (scratch.size() < tidy_places(on->take())) return 3;
     if (f.refusal()) return f.refusal();
     if (scratch.size() < tidy_places(f.take())) return 3;
     size = {canonical_size(tidied(f))};
@@ -886,7 +1038,13 @@ inline int tidy_size(const File &f, Longs &scratch, Longs &size, Words &kept, Wo
 }
 
 // g) "A shorter scratch is 3, tested just before 13."
-inline int tidy_animation(const File &f, Longs &scratch, Bytes &out, Longs &written, Words &kept, Words &dropped) {
+inline int tidy_animation(const File &file, Manner manner, Longs &scratch, Bytes &out, Longs &written, Words &kept,
+                          Words &dropped) {
+    const Reading &f = read(file, Call::tidy, manner);
+    if (const Reading *on = late(StrictTidyAfter3, file, manner))
+        if (scratch.size() < tidy_places(on->take())) return 3;
+    if (const Reading *on = late(StrictTidyAfter13, file, manner))
+        if (scratch.size() >= tidy_places(on->take()) && out.size() < canonical_size(tidied(*on))) return 13;
     if (f.refusal()) return f.refusal();
     if (altered(TidyThreeLast) && out.size() < canonical_size(tidied(f))) return 13;
     if (scratch.size() < tidy_places(f.take())) return 3;
@@ -963,18 +1121,18 @@ inline void put_table(const Table &t, Bytes &name_bytes, Words &ends) {
 
 // a) "an accepted file should yield what the builder takes"; "Cameras, lights, self-shadows and properties come as canonical
 // records."
-inline Parts split(const File &f) {
-    const Take &t = f.take();
+inline Parts split(const Bytes &f, const Opening &o) {
+    const Take &t = o.take;
     const bool last = altered(SplitLastAppearance);
-    const Table of_bones = last ? last_appearance(t.bones) : table(t.bones, f.bytes, f.opening.places[bones], 111);
-    const Table of_morphs = last ? last_appearance(t.morphs) : table(t.morphs, f.bytes, f.opening.places[morphs], 23);
+    const Table of_bones = last ? last_appearance(t.bones) : table(t.bones, f, o.places[bones], 111);
+    const Table of_morphs = last ? last_appearance(t.morphs) : table(t.morphs, f, o.places[morphs], 23);
     Parts p;
     p.model.assign(t.model.begin(), t.model.end());
     put_table(of_bones, p.bone_bytes, p.bone_ends);
     put_table(of_morphs, p.morph_bytes, p.morph_ends);
     put_records(p.cameras, t.cameras);
     if (altered(SplitRawFlags))
-        for (u64 i = 0; i < t.cameras.size(); i++) p.cameras[61 * i + 60] = f.bytes[f.opening.places[cameras] + 61 * i + 60];
+        for (u64 i = 0; i < t.cameras.size(); i++) p.cameras[61 * i + 60] = f[o.places[cameras] + 61 * i + 60];
     put_records(p.lights, t.lights);
     put_records(p.shadows, t.shadows);
     put_records(p.properties, t.properties);
@@ -993,9 +1151,9 @@ inline Parts split(const File &f) {
     return p;
 }
 
-inline const Parts &parts(const File &f) {
-    if (!f.its_parts) f.its_parts = split(f);
-    return *f.its_parts;
+inline const Parts &parts(const File &f, const Reading &reading) {
+    if (!reading.its_parts) reading.its_parts = split(f.bytes, reading.opening);
+    return *reading.its_parts;
 }
 
 // a) "The numbers of names and of name bytes in each table are returned."; header: "the number of bone names and of their
@@ -1006,10 +1164,11 @@ inline Longs table_sizes(const Parts &p) {
 }
 inline bool table_passes(const Parts &p) { return p.bone_bytes.size() > 0xFFFFFFFF || p.morph_bytes.size() > 0xFFFFFFFF; }
 
-// header: "The four numbers alone. Refusals: 1, 2; 14 where a name table would pass 4,294,967,295 bytes."
-inline int split_sizes(const File &f, Longs &sizes) {
+// header: "The four numbers alone. Refusals: reading; 14 where a name table would pass 4,294,967,295 bytes."
+inline int split_sizes(const File &file, Manner manner, Longs &sizes) {
+    const Reading &f = read(file, Call::split_sizes, manner);
     if (f.refusal()) return f.refusal();
-    const Parts &p = parts(f);
+    const Parts &p = parts(file, f);
     if (table_passes(p)) return 14;
     sizes = table_sizes(p);
     return 0;
@@ -1017,9 +1176,17 @@ inline int split_sizes(const File &f, Longs &sizes) {
 
 // a) "14 a table, column or record buffer is too short or a name table passes 4,294,967,295 bytes, tested after 1 and 2,
 // nothing written"; "Places past those written keep their contents."
-inline int split_animation_into_parts(const File &f, Parts &buffers, Longs &sizes) {
+inline int split_animation_into_parts(const File &file, Manner manner, Parts &buffers, Longs &sizes) {
+    const Reading &f = read(file, Call::split, manner);
+    if (const Reading *on = late(StrictSplitAfter14, file, manner)) {
+        bool too_short = false;
+        pairwise(parts(file, *on), buffers, [&](const auto &part, const auto &buffer) {
+            if (buffer.size() < part.size()) too_short = true;
+        });
+        if (too_short) return 14;
+    }
     if (f.refusal()) return f.refusal();
-    const Parts &p = parts(f);
+    const Parts &p = parts(file, f);
     bool short_one = table_passes(p);
     pairwise(p, buffers, [&](const auto &part, const auto &buffer) {
         if (buffer.size() < part.size() + (altered(SplitExactIs14) ? 1 : 0)) short_one = true;
@@ -1339,15 +1506,15 @@ template <class Record> u64 distinct(const std::vector<Record> &records, const B
 }
 
 // What one accepted take adds to the 64-bit figures, refused left out.
-inline Longs season_share(const File &f) {
+inline Longs season_share(const Bytes &f, const Opening &o) {
     Longs share(11, 0);
-    const auto counts = section_counts(f.take());
+    const auto counts = section_counts(o.take);
     for (int s = 0; s < 6; s++) {
         share[season_total + s] = counts[s];
         if (s < 5 || !altered(SeasonFirstFive)) share[season_records] += counts[s];
     }
-    share[season_bone_names] = distinct(f.take().bones, f.bytes, f.opening.places[bones], 111);
-    share[season_morph_names] = distinct(f.take().morphs, f.bytes, f.opening.places[morphs], 23);
+    share[season_bone_names] = distinct(o.take.bones, f, o.places[bones], 111);
+    share[season_morph_names] = distinct(o.take.morphs, f, o.places[morphs], 23);
     share[season_accepted] = 1;
     return share;
 }
@@ -1371,8 +1538,8 @@ inline void season_refuse(Longs &figures) {
 
 // b) "per section the total, the smallest and the largest count"; "Smallest and largest are over accepted takes"; header:
 // "While it is 0 the first take that is accepted sets smallest and largest, whatever stood there."
-inline void season_extremes(const File &f, bool first, Words &counts) {
-    const auto of_take = section_counts(f.take());
+inline void season_extremes(const Take &t, bool first, Words &counts) {
+    const auto of_take = section_counts(t);
     for (int s = 0; s < 6; s++) {
         u32 &smallest = counts[season_smallest + s], &largest = counts[season_largest + s];
         if (altered(SeasonEmptyNotSmallest) && of_take[s] == 0 && !first) continue;
@@ -1382,14 +1549,17 @@ inline void season_extremes(const File &f, bool first, Words &counts) {
     }
 }
 
-inline void season_add(const File &f, Words &counts, Longs &figures) {
+// i) "`vmd-list` and the season figures relied on the lenient manner and name it from here on."; header: "vmd_season_add has
+// the lenient manner alone"
+inline void season_add(const File &file, Words &counts, Longs &figures) {
+    const Reading &f = file.in(altered(SeasonStrict) ? Manner::strict : Manner::lenient);
     if (f.refusal()) return season_refuse(figures);
-    const Longs share = season_share(f);
+    const Longs share = season_share(file.bytes, f.opening);
     if (season_passes(figures, share)) {
-        if (altered(SeasonRefusedAdds)) season_extremes(f, false, counts);
+        if (altered(SeasonRefusedAdds)) season_extremes(f.take(), false, counts);
         return season_refuse(figures);
     }
-    season_extremes(f, figures[season_accepted] == 0, counts);
+    season_extremes(f.take(), figures[season_accepted] == 0, counts);
     for (int i = 0; i < season_refused; i++) figures[i] += share[i];
 }
 

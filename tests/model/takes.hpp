@@ -310,30 +310,53 @@ inline void dress_header(Dress &d, const Name &model, bool older) {
     d.name(model, older ? 10 : 20);
 }
 
-// An oversized count and fewer bytes than its records need: the section is emptied.
-inline void dress_oversized(Dress &d, int section) {
-    static const Words counts = {1, 2, 0xFFFFFFFF, 0x80000000};
-    const u32 count = d.r.pick(counts);
-    d.word(count);
-    for (u64 n = d.r.below(std::min<u64>(count * record_size[section], 70)); n > 0; n--) d.out.push_back(d.r.byte());
+// A count of which the records exceed the bytes left, by one record, by some, by many or by as many as there can be.
+inline u32 oversized_count(Rng &r, int section, u64 left) {
+    const u32 least = static_cast<u32>(left / record_size[section] + 1);
+    switch (r.below(6)) {
+    case 0:
+    case 1: return least;
+    case 2: return least + 1 + static_cast<u32>(r.below(40));
+    case 3: return std::max(r.word(), least);
+    default: return 0xFFFFFFFF;
+    }
 }
 
-// Sections at the end that are empty may be left out, or be emptied by an oversized count.
-inline Bytes dress(Rng &r, const Take &t) {
-    Dress d{r, !r.one_in(4), {}};
-    dress_header(d, t.model, t.model.size() <= 10 && r.one_in(3));
-    const auto counts = section_counts(t);
-    int sections = 6;
-    while (sections > 1 && counts[sections - 1] == 0 && !r.one_in(4)) sections--;
+// An oversized count and fewer bytes than its records need, often just one fewer or none.
+inline void dress_oversized(Dress &d, int section) {
+    const u64 size = record_size[section];
+    const u64 left = d.r.one_in(3) ? 0 : d.r.one_in(2) ? size * (1 + d.r.below(2)) - 1 : d.r.below(70);
+    d.word(oversized_count(d.r, section, left));
+    for (u64 n = left; n > 0; n--) d.out.push_back(d.r.byte());
+}
+
+inline void dress_sections(Dress &d, const Take &t, int sections) {
     d.section(t.bones);
     if (sections > morphs) d.section(t.morphs);
     if (sections > cameras) d.section(t.cameras);
     if (sections > lights) d.section(t.lights);
     if (sections > shadows) d.section(t.shadows);
     if (sections > properties) d.section(t.properties);
+}
+
+// Bytes over: one, a few, or what could be a frame; zeros, or anything.
+inline void add_over(Rng &r, Bytes &f) {
+    const bool zeros = r.one_in(2);
+    for (u64 n = r.one_in(3) ? 1 : 1 + r.below(20); n > 0; n--) f.push_back(zeros ? u8{0} : r.byte());
+}
+
+// A file of the take that the manner accepts. Sections at the end that are empty may be left out; where it is the lenient one
+// they may be emptied by an oversized count, and there may be bytes over.
+inline Bytes dress(Rng &r, const Take &t, Manner accepts) {
+    Dress d{r, !r.one_in(4), {}};
+    dress_header(d, t.model, t.model.size() <= 10 && r.one_in(3));
+    const auto counts = section_counts(t);
+    int sections = 6;
+    while (sections > 1 && counts[sections - 1] == 0 && !r.one_in(4)) sections--;
+    dress_sections(d, t, sections);
+    if (accepts == Manner::strict) return d.out;
     if (sections >= cameras && sections <= shadows && r.one_in(2)) dress_oversized(d, sections);
-    if (sections == 6 && r.one_in(4))
-        for (u64 n = r.below(20); n > 0; n--) d.out.push_back(r.byte());
+    if (sections == 6 && r.one_in(4)) add_over(r, d.out);
     return d.out;
 }
 
@@ -352,9 +375,9 @@ inline u32 wrong_count(Rng &r, u32 right) {
 
 // Where the counts of a file stand: the sections' and those of IK states.
 inline Longs count_places(const Bytes &f) {
-    const Opening o = open(f);
+    const Opening o = open(f, Manner::lenient);
     Longs all;
-    if (o.refusal) return all;
+    if (o.stop.refusal) return all;
     for (int s = 0; s < 6; s++)
         if (o.places[s] < f.size() || o.counts[s] == 0) all.push_back(o.places[s] - 4);
     for (u64 at : o.property_places) all.push_back(at + 5);
@@ -429,6 +452,69 @@ inline Bytes harm(Rng &r, Bytes f) {
     return f;
 }
 
+// ---- damage that the strict manner turns down, and what is near it
+
+// i) "A damaged camera count silently emptied lights and IK frames on stage." A count is oversized where its section stands,
+// mostly with all that was behind it; now and then the file is cut there, ends with the count, or lacks one byte.
+inline void damage_count(Rng &r, Bytes &f) {
+    const int section = cameras + static_cast<int>(r.below(3));
+    const u64 place = open(f, Manner::lenient).places[section], size = record_size[section], left = f.size() - place;
+    const u64 nearly = (left + 1) / size; // records, but for the last one's last byte
+    if (r.one_in(8) && nearly > 0) {
+        f.resize(place + nearly * size - 1);
+        return set_word(f, place - 4, static_cast<u32>(nearly));
+    }
+    if (r.one_in(10)) f.resize(place);
+    else if (r.one_in(10)) f.resize(place + std::min<u64>(r.below(80), left));
+    set_word(f, place - 4, oversized_count(r, section, f.size() - place));
+}
+
+// 16: bytes after the property frames, or frames that are not counted.
+inline void damage_end(Rng &r, Bytes &f, u32 frames) {
+    const u64 place = open(f, Manner::lenient).places[properties];
+    if (frames == 0 || r.one_in(2)) return add_over(r, f);
+    set_word(f, place - 4, r.one_in(2) ? 0 : static_cast<u32>(r.below(frames)));
+}
+
+// Another count is changed too, mostly to a 1: one before the damage, or one of IK states.
+inline void damage_more(Rng &r, Bytes &f, const Opening &whole) {
+    const u64 at = r.one_in(2) || whole.property_places.empty() ? whole.places[r.below(2)] - 4
+                                                                : r.pick(whole.property_places) + 5;
+    if (at + 4 <= f.size()) set_word(f, at, wrong_count(r, number(f, at)));
+}
+
+// Fewer than six counts, and now and then a part of the next, or an oversized one.
+inline Bytes fewer_counts(Rng &r, const Take &t, bool older) {
+    static const std::vector<int> numbers = {1, 2, 2, 3, 3, 4, 5};
+    const int sections = r.pick(numbers);
+    Dress d{r, !r.one_in(4), {}};
+    dress_header(d, t.model, older);
+    dress_sections(d, t, sections);
+    const bool can_be_oversized = sections >= cameras && sections <= shadows;
+    if (r.one_in(5))
+        for (u64 n = 1 + r.below(3); n > 0; n--) d.out.push_back(r.one_in(2) ? u8{0} : r.byte());
+    else if (can_be_oversized && r.one_in(5)) dress_oversized(d, sections);
+    return d.out;
+}
+
+// More often of the older edition, of which the other makers have fewer.
+inline Bytes damaged(Rng &r) {
+    const bool older = r.below(5) < 3;
+    Take t = some_take(r);
+    if (older) t.model.resize(std::min<std::size_t>(t.model.size(), 10));
+    if (r.one_in(3)) return fewer_counts(r, t, older);
+    if (r.one_in(6)) t.properties.clear();
+    Dress d{r, !r.one_in(4), {}};
+    dress_header(d, t.model, older);
+    dress_sections(d, t, 6);
+    const Opening whole = open(d.out, Manner::lenient);
+    const u64 kind = r.below(8);
+    if (kind < 2 || kind == 7) damage_end(r, d.out, whole.counts[properties]);
+    if (kind > 1) damage_count(r, d.out);
+    if (r.one_in(6)) damage_more(r, d.out, whole);
+    return d.out;
+}
+
 // ---- a take of a seed
 
 constexpr u64 big_every = 32768;
@@ -447,11 +533,13 @@ inline Bytes derived(Rng &r) {
 
 inline Bytes some_file(Rng &r) {
     const u64 kind = r.below(100);
-    if (r.one_in(64)) return dress(r, middle_take(r));
-    if (kind < 55) return dress(r, some_take(r));
-    if (kind < 67) return derived(r);
-    if (kind < 85) return harm(r, dress(r, some_take(r)));
-    if (kind < 90) return harm(r, harm(r, derived(r)));
+    if (r.one_in(64)) return dress(r, middle_take(r), Manner::lenient);
+    if (kind < 42) return dress(r, some_take(r), Manner::lenient);
+    if (kind < 53) return derived(r);
+    if (kind < 72) return damaged(r);
+    if (kind < 74) return harm(r, damaged(r));
+    if (kind < 87) return harm(r, dress(r, some_take(r), Manner::lenient));
+    if (kind < 91) return harm(r, harm(r, derived(r)));
     if (kind < 96) return header_and_junk(r);
     return kind < 97 ? bare_header(r) : junk(r);
 }
@@ -461,7 +549,7 @@ inline Bytes take_of(u64 seed, u64 n) {
     const int switched_on = alteration;
     alteration = AsWritten;
     Rng r = case_rng(seed, n, 0);
-    Bytes made = is_big(n) ? dress(r, big_take(r)) : some_file(r);
+    Bytes made = is_big(n) ? dress(r, big_take(r), Manner::lenient) : some_file(r);
     alteration = switched_on;
     return made;
 }
@@ -619,7 +707,8 @@ inline Parts some_parts(Rng &r) {
     const int switched_on = alteration;
     alteration = AsWritten;
     const Take t = some_take(r);
-    Parts p = split(File(canonical(t)));
+    const Bytes whole = canonical(t);
+    Parts p = split(whole, open(whole, Manner::strict));
     Dress d{r, true, {}};
     for (const Property &property : t.properties) d.record(property);
     p.properties = d.out;

@@ -46,6 +46,8 @@ pub enum VmdRefusal {
     OutputTooShort,
     PartsDoNotFit,
     ModelNameTooLong,
+    BytesOver,
+    CountOversized,
 }
 
 impl VmdRefusal {
@@ -68,6 +70,8 @@ impl VmdRefusal {
             VmdRefusal::OutputTooShort => 13,
             VmdRefusal::PartsDoNotFit => 14,
             VmdRefusal::ModelNameTooLong => 15,
+            VmdRefusal::BytesOver => 16,
+            VmdRefusal::CountOversized => 17,
         }
     }
 }
@@ -90,9 +94,11 @@ impl VmdEdition {
     }
 }
 
-// The manner of reading a whole take. Lenient: an oversized camera, light or self-shadow count empties its section, and bytes
-// after the last property frame are ignored.
+// The manner of reading a whole take. Strict, which is meant where none is named: an oversized camera, light or self-shadow
+// count is refused, and so are bytes after the last property frame. Lenient: such a count empties its section, and such bytes
+// are ignored.
 pub enum VmdManner {
+    Strict,
     Lenient,
 }
 

@@ -1,6 +1,7 @@
 // The library for C, thin over the calls of vmd_reader, vmd_export, vmd_names, vmd_parts, vmd_split, vmd_season and vmd_tidy, and
 // for its slots over vmd_slots. include/vmd.h says how C calls it. Every function states what it returns, and every slot and
 // buffer at exit, by equations with definitions.
+use vmd_base::VmdManner;
 use vmd_reader::VmdBoneAnswer;
 use vmd_reader::VmdCameraAnswer;
 use vmd_reader::VmdIkStateAnswer;
@@ -20,10 +21,11 @@ ghost use Rattle.vmd_format.specs.Bytes.{flag-byte};
 ghost use Rattle.vmd_format.specs.Names.{fault};
 ghost use Rattle.vmd_format.specs.Answer.{map-answer, fitted, left};
 ghost use Rattle.vmd_format.specs.Records.{bone, morph, camera, light, self-shadow};
-ghost use Rattle.vmd_format.specs.Read.{lenient};
+ghost use Rattle.vmd_format.specs.Read.{strict, lenient};
 ghost use Rattle.vmd_format.specs.Opening.{open-file, scratch-after};
 ghost use Rattle.vmd_format.specs.Fetch.{record-place, fetch, or-empty, model-of, fetch-property, step-property, fetch-ik-state};
 ghost use Rattle.vmd_format.specs.Parts.{build};
+ghost use Rattle.vmd_base.specs.Meaning.{manner-of};
 ghost use Rattle.vmd_places.specs.Meaning.{ik-place};
 ghost use Rattle.vmd_places.specs.Parts.{file-part, part-in};
 ghost use Rattle.vmd_export.specs.Saved.{exported-answer, exported-output, older-answer, older-output, joined-answer, joined-output, export-size, older-size, join-size};
@@ -35,22 +37,24 @@ ghost use Rattle.vmd_season.specs.Season.{no-takes, with-file, mean};
 
 // ---- opening
 
-#[no_mangle]
-pub extern "C" fn vmd_parse_animation(
+// Of every call that reads a whole take there are two functions for C, strict and lenient, over one that is told the manner.
+
+fn parse_in(
+    manner: VmdManner,
     file: &[u8],
     scratch: &mut [u64],
     counts: &mut [u32; 6],
     places: &mut [u64; 6],
     totals: &mut [u64; 3],
 ) -> u32
-    ensures { λ r. ⌜ (let answer = open-file lenient (now (file .entry)) (length (now (scratch .entry))) in
+    ensures { λ r. ⌜ (let answer = open-file (manner-of manner) (now (file .entry)) (length (now (scratch .entry))) in
         (r ≡ status answer)
         × (now (counts .exit) ≡ slot-after (now (counts .entry)) counts-of answer)
         × (now (places .exit) ≡ slot-after (now (places .entry)) places-of answer)
         × (now (totals .exit) ≡ slot-after (now (totals .entry)) totals-of answer)
-        × (now (scratch .exit) ≡ scratch-after lenient (now (file .entry)) (now (scratch .entry)))) ⌝ }
+        × (now (scratch .exit) ≡ scratch-after (manner-of manner) (now (file .entry)) (now (scratch .entry)))) ⌝ }
 {
-    match vmd_reader::parse_vmd_animation(file, scratch) {
+    match vmd_reader::open_file(file, manner, scratch) {
         VmdOpened::Refused(k) => k.number(),
         VmdOpened::Opened(o) => {
             let s = o.sections;
@@ -74,6 +78,42 @@ pub extern "C" fn vmd_parse_animation(
             0
         }
     }
+}
+
+#[no_mangle]
+pub extern "C" fn vmd_parse_animation(
+    file: &[u8],
+    scratch: &mut [u64],
+    counts: &mut [u32; 6],
+    places: &mut [u64; 6],
+    totals: &mut [u64; 3],
+) -> u32
+    ensures { λ r. ⌜ (let answer = open-file strict (now (file .entry)) (length (now (scratch .entry))) in
+        (r ≡ status answer)
+        × (now (counts .exit) ≡ slot-after (now (counts .entry)) counts-of answer)
+        × (now (places .exit) ≡ slot-after (now (places .entry)) places-of answer)
+        × (now (totals .exit) ≡ slot-after (now (totals .entry)) totals-of answer)
+        × (now (scratch .exit) ≡ scratch-after strict (now (file .entry)) (now (scratch .entry)))) ⌝ }
+{
+    parse_in(VmdManner::Strict, file, scratch, counts, places, totals)
+}
+
+#[no_mangle]
+pub extern "C" fn vmd_parse_animation_lenient(
+    file: &[u8],
+    scratch: &mut [u64],
+    counts: &mut [u32; 6],
+    places: &mut [u64; 6],
+    totals: &mut [u64; 3],
+) -> u32
+    ensures { λ r. ⌜ (let answer = open-file lenient (now (file .entry)) (length (now (scratch .entry))) in
+        (r ≡ status answer)
+        × (now (counts .exit) ≡ slot-after (now (counts .entry)) counts-of answer)
+        × (now (places .exit) ≡ slot-after (now (places .entry)) places-of answer)
+        × (now (totals .exit) ≡ slot-after (now (totals .entry)) totals-of answer)
+        × (now (scratch .exit) ≡ scratch-after lenient (now (file .entry)) (now (scratch .entry)))) ⌝ }
+{
+    parse_in(VmdManner::Lenient, file, scratch, counts, places, totals)
 }
 
 // ---- records by number
@@ -416,55 +456,182 @@ pub extern "C" fn vmd_camera_interpolation(
 
 // ---- saving and joining
 
+fn export_size_in(manner: VmdManner, file: &[u8], size: &mut u64) -> u32
+    ensures { λ r. ⌜ (let answer = export-size (manner-of manner) (now (file .entry)) in
+        (r ≡ status answer)
+        × (now (size .exit) ≡ slot-after (now (size .entry)) (λ n. n) answer)) ⌝ }
+{
+    vmd_slots::report_written(vmd_export::export_file_size(file, manner), size)
+}
+
 #[no_mangle]
 pub extern "C" fn vmd_export_size(file: &[u8], size: &mut u64) -> u32
+    ensures { λ r. ⌜ (let answer = export-size strict (now (file .entry)) in
+        (r ≡ status answer)
+        × (now (size .exit) ≡ slot-after (now (size .entry)) (λ n. n) answer)) ⌝ }
+{
+    export_size_in(VmdManner::Strict, file, size)
+}
+
+#[no_mangle]
+pub extern "C" fn vmd_export_size_lenient(file: &[u8], size: &mut u64) -> u32
     ensures { λ r. ⌜ (let answer = export-size lenient (now (file .entry)) in
         (r ≡ status answer)
         × (now (size .exit) ≡ slot-after (now (size .entry)) (λ n. n) answer)) ⌝ }
 {
-    vmd_slots::report_written(vmd_export::export_vmd_size(file), size)
+    export_size_in(VmdManner::Lenient, file, size)
+}
+
+fn export_in(manner: VmdManner, file: &[u8], out: &mut [u8], written: &mut u64) -> u32
+    ensures { λ r. ⌜ (let answer = exported-answer (manner-of manner) (now (file .entry)) (now (out .entry)) in
+        (r ≡ status answer)
+        × (now (written .exit) ≡ slot-after (now (written .entry)) (λ n. n) answer)
+        × (now (out .exit) ≡ exported-output (manner-of manner) (now (file .entry)) (now (out .entry)))) ⌝ }
+{
+    vmd_slots::report_written(vmd_export::export_file(file, manner, out), written)
 }
 
 #[no_mangle]
 pub extern "C" fn vmd_export_animation(file: &[u8], out: &mut [u8], written: &mut u64) -> u32
+    ensures { λ r. ⌜ (let answer = exported-answer strict (now (file .entry)) (now (out .entry)) in
+        (r ≡ status answer)
+        × (now (written .exit) ≡ slot-after (now (written .entry)) (λ n. n) answer)
+        × (now (out .exit) ≡ exported-output strict (now (file .entry)) (now (out .entry)))) ⌝ }
+{
+    export_in(VmdManner::Strict, file, out, written)
+}
+
+#[no_mangle]
+pub extern "C" fn vmd_export_animation_lenient(
+    file: &[u8],
+    out: &mut [u8],
+    written: &mut u64,
+) -> u32
     ensures { λ r. ⌜ (let answer = exported-answer lenient (now (file .entry)) (now (out .entry)) in
         (r ≡ status answer)
         × (now (written .exit) ≡ slot-after (now (written .entry)) (λ n. n) answer)
         × (now (out .exit) ≡ exported-output lenient (now (file .entry)) (now (out .entry)))) ⌝ }
 {
-    vmd_slots::report_written(vmd_export::export_vmd_animation(file, out), written)
+    export_in(VmdManner::Lenient, file, out, written)
+}
+
+fn export_older_size_in(manner: VmdManner, file: &[u8], size: &mut u64) -> u32
+    ensures { λ r. ⌜ (let answer = older-size (manner-of manner) (now (file .entry)) in
+        (r ≡ status answer)
+        × (now (size .exit) ≡ slot-after (now (size .entry)) (λ n. n) answer)) ⌝ }
+{
+    vmd_slots::report_written(vmd_export::export_older_file_size(file, manner), size)
 }
 
 #[no_mangle]
 pub extern "C" fn vmd_export_older_size(file: &[u8], size: &mut u64) -> u32
+    ensures { λ r. ⌜ (let answer = older-size strict (now (file .entry)) in
+        (r ≡ status answer)
+        × (now (size .exit) ≡ slot-after (now (size .entry)) (λ n. n) answer)) ⌝ }
+{
+    export_older_size_in(VmdManner::Strict, file, size)
+}
+
+#[no_mangle]
+pub extern "C" fn vmd_export_older_size_lenient(file: &[u8], size: &mut u64) -> u32
     ensures { λ r. ⌜ (let answer = older-size lenient (now (file .entry)) in
         (r ≡ status answer)
         × (now (size .exit) ≡ slot-after (now (size .entry)) (λ n. n) answer)) ⌝ }
 {
-    vmd_slots::report_written(vmd_export::export_older_vmd_size(file), size)
+    export_older_size_in(VmdManner::Lenient, file, size)
+}
+
+fn export_older_in(manner: VmdManner, file: &[u8], out: &mut [u8], written: &mut u64) -> u32
+    ensures { λ r. ⌜ (let answer = older-answer (manner-of manner) (now (file .entry)) (now (out .entry)) in
+        (r ≡ status answer)
+        × (now (written .exit) ≡ slot-after (now (written .entry)) (λ n. n) answer)
+        × (now (out .exit) ≡ older-output (manner-of manner) (now (file .entry)) (now (out .entry)))) ⌝ }
+{
+    vmd_slots::report_written(vmd_export::export_older_file(file, manner, out), written)
 }
 
 #[no_mangle]
 pub extern "C" fn vmd_export_older_animation(file: &[u8], out: &mut [u8], written: &mut u64) -> u32
+    ensures { λ r. ⌜ (let answer = older-answer strict (now (file .entry)) (now (out .entry)) in
+        (r ≡ status answer)
+        × (now (written .exit) ≡ slot-after (now (written .entry)) (λ n. n) answer)
+        × (now (out .exit) ≡ older-output strict (now (file .entry)) (now (out .entry)))) ⌝ }
+{
+    export_older_in(VmdManner::Strict, file, out, written)
+}
+
+#[no_mangle]
+pub extern "C" fn vmd_export_older_animation_lenient(
+    file: &[u8],
+    out: &mut [u8],
+    written: &mut u64,
+) -> u32
     ensures { λ r. ⌜ (let answer = older-answer lenient (now (file .entry)) (now (out .entry)) in
         (r ≡ status answer)
         × (now (written .exit) ≡ slot-after (now (written .entry)) (λ n. n) answer)
         × (now (out .exit) ≡ older-output lenient (now (file .entry)) (now (out .entry)))) ⌝ }
 {
-    vmd_slots::report_written(vmd_export::export_older_vmd_animation(file, out), written)
+    export_older_in(VmdManner::Lenient, file, out, written)
+}
+
+fn join_size_in(manner: VmdManner, first: &[u8], second: &[u8], size: &mut u64) -> u32
+    ensures { λ r. ⌜ (let answer = join-size (manner-of manner) (now (first .entry)) (now (second .entry)) in
+        (r ≡ status answer)
+        × (now (size .exit) ≡ slot-after (now (size .entry)) (λ n. n) answer)) ⌝ }
+{
+    vmd_slots::report_written(vmd_export::join_files_size(first, second, manner), size)
 }
 
 #[no_mangle]
 pub extern "C" fn vmd_join_size(first: &[u8], second: &[u8], size: &mut u64) -> u32
+    ensures { λ r. ⌜ (let answer = join-size strict (now (first .entry)) (now (second .entry)) in
+        (r ≡ status answer)
+        × (now (size .exit) ≡ slot-after (now (size .entry)) (λ n. n) answer)) ⌝ }
+{
+    join_size_in(VmdManner::Strict, first, second, size)
+}
+
+#[no_mangle]
+pub extern "C" fn vmd_join_size_lenient(first: &[u8], second: &[u8], size: &mut u64) -> u32
     ensures { λ r. ⌜ (let answer = join-size lenient (now (first .entry)) (now (second .entry)) in
         (r ≡ status answer)
         × (now (size .exit) ≡ slot-after (now (size .entry)) (λ n. n) answer)) ⌝ }
 {
-    vmd_slots::report_written(vmd_export::join_vmd_size(first, second), size)
+    join_size_in(VmdManner::Lenient, first, second, size)
+}
+
+fn join_in<'a>(
+    manner: VmdManner,
+    first: &'a [u8],
+    second: &'a [u8],
+    out: &mut [u8],
+    written: &mut u64,
+) -> u32
+    ensures { λ r. ⌜ (let answer = joined-answer (manner-of manner) (now (first .entry)) (now (second .entry)) (now (out .entry)) in
+        (r ≡ status answer)
+        × (now (written .exit) ≡ slot-after (now (written .entry)) (λ n. n) answer)
+        × (now (out .exit) ≡ joined-output (manner-of manner) (now (first .entry)) (now (second .entry)) (now (out .entry)))) ⌝ }
+{
+    vmd_slots::report_written(vmd_export::join_files(first, second, manner, out), written)
 }
 
 #[no_mangle]
 pub extern "C" fn vmd_join_animations<'a>(
+    first: &'a [u8],
+    second: &'a [u8],
+    out: &mut [u8],
+    written: &mut u64,
+) -> u32
+    ensures { λ r. ⌜ (let answer = joined-answer strict (now (first .entry)) (now (second .entry)) (now (out .entry)) in
+        (r ≡ status answer)
+        × (now (written .exit) ≡ slot-after (now (written .entry)) (λ n. n) answer)
+        × (now (out .exit) ≡ joined-output strict (now (first .entry)) (now (second .entry)) (now (out .entry)))) ⌝ }
+{
+    join_in(VmdManner::Strict, first, second, out, written)
+}
+
+#[no_mangle]
+pub extern "C" fn vmd_join_animations_lenient<'a>(
     first: &'a [u8],
     second: &'a [u8],
     out: &mut [u8],
@@ -475,7 +642,7 @@ pub extern "C" fn vmd_join_animations<'a>(
         × (now (written .exit) ≡ slot-after (now (written .entry)) (λ n. n) answer)
         × (now (out .exit) ≡ joined-output lenient (now (first .entry)) (now (second .entry)) (now (out .entry)))) ⌝ }
 {
-    vmd_slots::report_written(vmd_export::join_vmd_animations(first, second, out), written)
+    join_in(VmdManner::Lenient, first, second, out, written)
 }
 
 #[no_mangle]
@@ -496,8 +663,49 @@ pub extern "C" fn vmd_joined_model<'a>(first: &'a [u8], second: &'a [u8], part: 
 
 // ---- tidying
 
+fn tidy_size_in(
+    manner: VmdManner,
+    file: &[u8],
+    scratch: &mut [u64],
+    size: &mut u64,
+    kept: &mut [u32; 6],
+    dropped: &mut [u32; 6],
+) -> u32
+    ensures { λ r. ⌜ (let answer = size-answer (manner-of manner) (now (file .entry)) (now (scratch .entry)) in
+        (r ≡ status answer)
+        × (now (size .exit) ≡ slot-after (now (size .entry)) (λ t. t .bytes) answer)
+        × (now (kept .exit) ≡ slot-after (now (kept .entry)) (λ t. count-words (t .kept)) answer)
+        × (now (dropped .exit) ≡ slot-after (now (dropped .entry)) (λ t. count-words (t .dropped)) answer)
+        × (now (scratch .exit) ≡ size-scratch (manner-of manner) (now (file .entry)) (now (scratch .entry)))) ⌝ }
+{
+    vmd_slots::report_tidied(
+        vmd_tidy::tidy_file_size(file, manner, scratch),
+        size,
+        kept,
+        dropped,
+    )
+}
+
 #[no_mangle]
 pub extern "C" fn vmd_tidy_size(
+    file: &[u8],
+    scratch: &mut [u64],
+    size: &mut u64,
+    kept: &mut [u32; 6],
+    dropped: &mut [u32; 6],
+) -> u32
+    ensures { λ r. ⌜ (let answer = size-answer strict (now (file .entry)) (now (scratch .entry)) in
+        (r ≡ status answer)
+        × (now (size .exit) ≡ slot-after (now (size .entry)) (λ t. t .bytes) answer)
+        × (now (kept .exit) ≡ slot-after (now (kept .entry)) (λ t. count-words (t .kept)) answer)
+        × (now (dropped .exit) ≡ slot-after (now (dropped .entry)) (λ t. count-words (t .dropped)) answer)
+        × (now (scratch .exit) ≡ size-scratch strict (now (file .entry)) (now (scratch .entry)))) ⌝ }
+{
+    tidy_size_in(VmdManner::Strict, file, scratch, size, kept, dropped)
+}
+
+#[no_mangle]
+pub extern "C" fn vmd_tidy_size_lenient(
     file: &[u8],
     scratch: &mut [u64],
     size: &mut u64,
@@ -511,11 +719,64 @@ pub extern "C" fn vmd_tidy_size(
         × (now (dropped .exit) ≡ slot-after (now (dropped .entry)) (λ t. count-words (t .dropped)) answer)
         × (now (scratch .exit) ≡ size-scratch lenient (now (file .entry)) (now (scratch .entry)))) ⌝ }
 {
-    vmd_slots::report_tidied(vmd_tidy::tidy_vmd_size(file, scratch), size, kept, dropped)
+    tidy_size_in(VmdManner::Lenient, file, scratch, size, kept, dropped)
+}
+
+fn tidy_in(
+    manner: VmdManner,
+    file: &[u8],
+    scratch: &mut [u64],
+    out: &mut [u8],
+    written: &mut u64,
+    kept: &mut [u32; 6],
+    dropped: &mut [u32; 6],
+) -> u32
+    ensures { λ r. ⌜ (let answer = tidied-answer (manner-of manner) (now (file .entry)) (now (scratch .entry)) (now (out .entry)) in
+        (r ≡ status answer)
+        × (now (written .exit) ≡ slot-after (now (written .entry)) (λ t. t .bytes) answer)
+        × (now (kept .exit) ≡ slot-after (now (kept .entry)) (λ t. count-words (t .kept)) answer)
+        × (now (dropped .exit) ≡ slot-after (now (dropped .entry)) (λ t. count-words (t .dropped)) answer)
+        × (now (out .exit) ≡ tidied-output (manner-of manner) (now (file .entry)) (now (scratch .entry)) (now (out .entry)))
+        × (now (scratch .exit) ≡ tidied-scratch (manner-of manner) (now (file .entry)) (now (scratch .entry)) (now (out .entry)))) ⌝ }
+{
+    vmd_slots::report_tidied(
+        vmd_tidy::tidy_file(file, manner, scratch, out),
+        written,
+        kept,
+        dropped,
+    )
 }
 
 #[no_mangle]
 pub extern "C" fn vmd_tidy_animation(
+    file: &[u8],
+    scratch: &mut [u64],
+    out: &mut [u8],
+    written: &mut u64,
+    kept: &mut [u32; 6],
+    dropped: &mut [u32; 6],
+) -> u32
+    ensures { λ r. ⌜ (let answer = tidied-answer strict (now (file .entry)) (now (scratch .entry)) (now (out .entry)) in
+        (r ≡ status answer)
+        × (now (written .exit) ≡ slot-after (now (written .entry)) (λ t. t .bytes) answer)
+        × (now (kept .exit) ≡ slot-after (now (kept .entry)) (λ t. count-words (t .kept)) answer)
+        × (now (dropped .exit) ≡ slot-after (now (dropped .entry)) (λ t. count-words (t .dropped)) answer)
+        × (now (out .exit) ≡ tidied-output strict (now (file .entry)) (now (scratch .entry)) (now (out .entry)))
+        × (now (scratch .exit) ≡ tidied-scratch strict (now (file .entry)) (now (scratch .entry)) (now (out .entry)))) ⌝ }
+{
+    tidy_in(
+        VmdManner::Strict,
+        file,
+        scratch,
+        out,
+        written,
+        kept,
+        dropped,
+    )
+}
+
+#[no_mangle]
+pub extern "C" fn vmd_tidy_animation_lenient(
     file: &[u8],
     scratch: &mut [u64],
     out: &mut [u8],
@@ -531,8 +792,11 @@ pub extern "C" fn vmd_tidy_animation(
         × (now (out .exit) ≡ tidied-output lenient (now (file .entry)) (now (scratch .entry)) (now (out .entry)))
         × (now (scratch .exit) ≡ tidied-scratch lenient (now (file .entry)) (now (scratch .entry)) (now (out .entry)))) ⌝ }
 {
-    vmd_slots::report_tidied(
-        vmd_tidy::tidy_vmd_animation(file, scratch, out),
+    tidy_in(
+        VmdManner::Lenient,
+        file,
+        scratch,
+        out,
         written,
         kept,
         dropped,
@@ -657,16 +921,87 @@ pub extern "C" fn vmd_build_animation_from_parts(
 
 // ---- parts out of a take
 
+fn split_sizes_in(manner: VmdManner, file: &[u8], sizes: &mut [u64; 4]) -> u32
+    ensures { λ r. ⌜ (let answer = split-sizes (manner-of manner) (now (file .entry)) in
+        (r ≡ status answer) × (now (sizes .exit) ≡ slot-after (now (sizes .entry)) size-words answer)) ⌝ }
+{
+    vmd_slots::report_sizes(vmd_split::split_file_sizes(file, manner), sizes)
+}
+
 #[no_mangle]
 pub extern "C" fn vmd_split_sizes(file: &[u8], sizes: &mut [u64; 4]) -> u32
+    ensures { λ r. ⌜ (let answer = split-sizes strict (now (file .entry)) in
+        (r ≡ status answer) × (now (sizes .exit) ≡ slot-after (now (sizes .entry)) size-words answer)) ⌝ }
+{
+    split_sizes_in(VmdManner::Strict, file, sizes)
+}
+
+#[no_mangle]
+pub extern "C" fn vmd_split_sizes_lenient(file: &[u8], sizes: &mut [u64; 4]) -> u32
     ensures { λ r. ⌜ (let answer = split-sizes lenient (now (file .entry)) in
         (r ≡ status answer) × (now (sizes .exit) ≡ slot-after (now (sizes .entry)) size-words answer)) ⌝ }
 {
-    vmd_slots::report_sizes(vmd_split::split_vmd_sizes(file), sizes)
+    split_sizes_in(VmdManner::Lenient, file, sizes)
 }
 
 #[no_mangle]
 pub extern "C" fn vmd_split_animation_into_parts(
+    file: &[u8],
+    bone_name_bytes: &mut [u8],
+    bone_name_ends: &mut [u32],
+    morph_name_bytes: &mut [u8],
+    morph_name_ends: &mut [u32],
+    camera_frames: &mut [u8],
+    light_frames: &mut [u8],
+    self_shadow_frames: &mut [u8],
+    property_frames: &mut [u8],
+    bone_name_indices: &mut [u32],
+    bone_frames: &mut [u32],
+    bone_translations_xyz: &mut [u32],
+    bone_rotations_xyzw: &mut [u32],
+    bone_interpolations: &mut [u8],
+    morph_name_indices: &mut [u32],
+    morph_frames: &mut [u32],
+    morph_weights: &mut [u32],
+    sizes: &mut [u64; 4],
+) -> u32
+    ensures { λ r. ⌜ (let lent = buffers (now («bone_name_bytes» .entry)) (now («bone_name_ends» .entry)) (now («morph_name_bytes» .entry)) (now («morph_name_ends» .entry))
+        (now («camera_frames» .entry)) (now («light_frames» .entry)) (now («self_shadow_frames» .entry)) (now («property_frames» .entry))
+        (now («bone_name_indices» .entry)) (now («bone_frames» .entry)) (now («bone_translations_xyz» .entry)) (now («bone_rotations_xyzw» .entry))
+        (now («bone_interpolations» .entry)) (now («morph_name_indices» .entry)) (now («morph_frames» .entry)) (now («morph_weights» .entry)) in
+        (r ≡ status (split-answer strict (now (file .entry)) lent))
+        × (now (sizes .exit) ≡ slot-after (now (sizes .entry)) size-words (split-answer strict (now (file .entry)) lent))
+        × (buffers (now («bone_name_bytes» .exit)) (now («bone_name_ends» .exit)) (now («morph_name_bytes» .exit)) (now («morph_name_ends» .exit))
+        (now («camera_frames» .exit)) (now («light_frames» .exit)) (now («self_shadow_frames» .exit)) (now («property_frames» .exit))
+        (now («bone_name_indices» .exit)) (now («bone_frames» .exit)) (now («bone_translations_xyz» .exit)) (now («bone_rotations_xyzw» .exit))
+        (now («bone_interpolations» .exit)) (now («morph_name_indices» .exit)) (now («morph_frames» .exit)) (now («morph_weights» .exit))
+        ≡ parts-left lent (split strict (now (file .entry)) lent))) ⌝ }
+{
+    let answer = vmd_split::split_file(
+        file,
+        VmdManner::Strict,
+        bone_name_bytes,
+        bone_name_ends,
+        morph_name_bytes,
+        morph_name_ends,
+        camera_frames,
+        light_frames,
+        self_shadow_frames,
+        property_frames,
+        bone_name_indices,
+        bone_frames,
+        bone_translations_xyz,
+        bone_rotations_xyzw,
+        bone_interpolations,
+        morph_name_indices,
+        morph_frames,
+        morph_weights,
+    );
+    vmd_slots::report_sizes(answer, sizes)
+}
+
+#[no_mangle]
+pub extern "C" fn vmd_split_animation_into_parts_lenient(
     file: &[u8],
     bone_name_bytes: &mut [u8],
     bone_name_ends: &mut [u32],
@@ -698,8 +1033,9 @@ pub extern "C" fn vmd_split_animation_into_parts(
         (now («bone_interpolations» .exit)) (now («morph_name_indices» .exit)) (now («morph_frames» .exit)) (now («morph_weights» .exit))
         ≡ parts-left lent (split lenient (now (file .entry)) lent))) ⌝ }
 {
-    let answer = vmd_split::split_vmd_animation_into_parts(
+    let answer = vmd_split::split_file(
         file,
+        VmdManner::Lenient,
         bone_name_bytes,
         bone_name_ends,
         morph_name_bytes,

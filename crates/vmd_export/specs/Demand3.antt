@@ -61,19 +61,27 @@ module _ (m : Manner) where
       let f = same-records t u in
       (λ z. f .0 (e .0 z), λ z. e .1 (f .1 z))
 
-  -- "and the export of each is accepted and reads back as its records and its model name"
+  -- "and the export of each is accepted and reads back as its records and its model name"; it is so in every manner
+  pub export-back-in : (any : Manner) {s : List ℕ} {t : Take} (out : List ℕ) → Accepted m s t → Enough t out → Reads any (exported m s out) t
+  export-back-in any {s} {t} out h n =
+      record { file = write-take t; is = exported-is out h n; accepted = written-accepted any t (well-formed m h) }
+
   pub export-back : {s : List ℕ} {t : Take} (out : List ℕ) → Accepted m s t → Enough t out → Reads m (exported m s out) t
-  export-back {s} {t} out h n = record { file = write-take t; is = exported-is out h n; accepted = written-accepted m t (well-formed m h) }
+  export-back = export-back-in m
 
   -- "The join of any two of them whose counts added up fit 32 bits is accepted and reads back as the records and model name
   -- that document 01 gives it"
-  pub join-back : {a b : List ℕ} {t u : Take} (out : List ℕ) → Accepted m a t → Accepted m b u → Fit t u → Enough (join t u) out
-      → Reads m (joined m a b out) (join t u)
-  join-back {a} {b} {t} {u} out h k f n = record {
+  pub join-back-in : (any : Manner) {a b : List ℕ} {t u : Take} (out : List ℕ) → Accepted m a t → Accepted m b u → Fit t u → Enough (join t u) out
+      → Reads any (joined m a b out) (join t u)
+  join-back-in any {a} {b} {t} {u} out h k f n = record {
     file = write-take (join t u);
     is = joined-is a b out (h .reads) (k .reads) f n;
-    accepted = written-accepted m (join t u) (join-well-formed f (well-formed m h) (well-formed m k));
+    accepted = written-accepted any (join t u) (join-well-formed f (well-formed m h) (well-formed m k));
   }
+
+  pub join-back : {a b : List ℕ} {t u : Take} (out : List ℕ) → Accepted m a t → Accepted m b u → Fit t u → Enough (join t u) out
+      → Reads m (joined m a b out) (join t u)
+  join-back = join-back-in m
 
   -- "joining any of them, on either side, with an accepted take of no records and no model name gives the other's export"
   pub join-with-empty : {e s : List ℕ} {t : Take} (out other : List ℕ) → Accepted m e empty → Accepted m s t → Enough t out → Enough t other

@@ -4,9 +4,9 @@ use Prim.Native.Nat.{ℕ, _-_}
 use mathlib.Core.Path.{_≡_, refl}
 use mathlib.Core.List.{List, [], _∷_, _++_}
 use lib.ListN.{take, replicate}
-use Rattle.vmd_format.specs.Refusal.{file-ends-early, magic-differs, output-too-short, model-name-too-long}
+use Rattle.vmd_format.specs.Refusal.{file-ends-early, magic-differs, output-too-short, model-name-too-long, bytes-over, count-oversized}
 use Rattle.vmd_format.specs.Answer.{declined, given}
-use Rattle.vmd_format.specs.Read.{lenient}
+use Rattle.vmd_format.specs.Read.{strict, lenient}
 use Rattle.vmd_format.specs.Computed.{computed, start, older-start, fours, u0, u1, morph-bytes}
 use Rattle.vmd_base.specs.declared.VmdRefusal.the-variants.{OutputTooShort}
 use Rattle.vmd_output.specs.declared.VmdWritten.the-variants.{Refused, Bytes}
@@ -86,3 +86,37 @@ join-refused = (refl, refl, refl, refl, refl)
 -- what an answer of the code says
 pub answers : (written-answer (Bytes 74) ≡ given 74) × (written-answer (Refused OutputTooShort) ≡ declined output-too-short)
 answers = (refl, refl)
+
+-- ---- the two manners (02 i)
+
+-- bytes over and an oversized count: 16 and 17 before 13 and 15, and the output is as it was
+pub strict-refused :
+    (exported-answer strict (written u0 ++ (0 ∷ [])) (replicate 76 7) ≡ declined bytes-over)
+    × (exported-output strict (written u0 ++ (0 ∷ [])) (replicate 76 7) ≡ replicate 76 7)
+    × (export-size strict (written u0 ++ (0 ∷ [])) ≡ declined bytes-over)
+    × (exported-answer strict (start ++ u0 ++ u0 ++ u1) [] ≡ declined count-oversized)
+    × (older-answer strict (long-name 11 ++ u0 ++ u1) [] ≡ declined count-oversized)
+    × (older-output strict (long-name 11 ++ u0 ++ u1) (replicate 64 7) ≡ replicate 64 7)
+    × (older-size strict (long-name 11 ++ u0 ++ u1) ≡ declined count-oversized)
+    × (joined-answer strict (written u0) (start ++ u0 ++ u0 ++ u1) (replicate 76 7) ≡ declined count-oversized)
+    × (joined-output strict (written u0) (start ++ u0 ++ u0 ++ u1) (replicate 76 7) ≡ replicate 76 7)
+    × (join-size strict (written u0 ++ (0 ∷ [])) start ≡ declined bytes-over)
+unfolding computed
+strict-refused = (refl, refl, refl, refl, refl, refl, refl, refl, refl, refl)
+
+-- the lenient manner saves them without what was over, and without the section and all after it
+pub lenient-saved :
+    (exported-output lenient (written u0 ++ (0 ∷ [])) (replicate 76 7) ≡ written u0 ++ (7 ∷ 7 ∷ []))
+    × (exported-output lenient (start ++ u0 ++ u0 ++ u1) (replicate 76 7) ≡ written u0 ++ (7 ∷ 7 ∷ []))
+    × (joined-output lenient (written u0 ++ (0 ∷ [])) (start ++ u0 ++ u0 ++ u1) (replicate 76 7) ≡ written u0 ++ (7 ∷ 7 ∷ []))
+unfolding computed
+lenient-saved = (refl, refl, refl)
+
+-- what the strict manner accepts it saves as the lenient one does
+pub strict-saved :
+    (exported-answer strict (morph-take 66 88) (replicate 99 7) ≡ given 97)
+    × (exported-output strict (morph-take 66 88) (replicate 99 7) ≡ written (u1 ++ morph-bytes 66 0 9) ++ (7 ∷ 7 ∷ []))
+    × (older-size strict (morph-take 66 88) ≡ given 87)
+    × (joined-answer strict (morph-take 66 88) (morph-take 67 89) (replicate 121 7) ≡ given 120)
+unfolding computed
+strict-saved = (refl, refl, refl, refl)

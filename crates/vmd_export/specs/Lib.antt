@@ -6,3 +6,4 @@ pub mod Refusals
 pub mod Older
 pub mod Examples
 pub mod Frames
+pub mod Manners

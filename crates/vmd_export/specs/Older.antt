@@ -56,9 +56,12 @@ module _ (m : Manner) {s : List ℕ} {t : Take} (h : Accepted m s t) where
     converted-is : converted m s out ≡ given (write-edition older t)
     converted-is = left-whole (write-edition older t) out (older-file m s) (older-is m h short) n
 
-    -- what it writes is accepted and reads back as the take
+    -- what it writes is accepted and reads back as the take, in every manner
+    pub converted-back-in : (any : Manner) → Reads any (converted m s out) t
+    converted-back-in any = record { file = write-edition older t; is = converted-is; accepted = older-accepted m h any short }
+
     pub converted-back : Reads m (converted m s out) t
-    converted-back = record { file = write-edition older t; is = converted-is; accepted = older-accepted m h short }
+    converted-back = converted-back-in m
 
     -- "with zeros after the magic and the name"
     pub converted-header : map-answer (take 40) (converted m s out) ≡ given (write-header older (t .model))
@@ -69,7 +72,7 @@ module _ (m : Manner) {s : List ℕ} {t : Take} (h : Accepted m s t) where
     module _ (other : List ℕ) (k : Enough t other) where
       pub converted-exports : (third : List ℕ) → Enough t third → and-then (converted m s out) (λ f. exported m f third) ≡ exported m s other
       unfolding and-then
-      converted-exports third l = rw converted-is (exported-is m third (older-accepted m h short) l ∙ sym (exported-is m other h k))
+      converted-exports third l = rw converted-is (exported-is m third (older-accepted m h m short) l ∙ sym (exported-is m other h k))
 
       pub converted-widened : map-answer widened (converted m s out) ≡ exported m s other
       unfolding map-answer

@@ -10,7 +10,7 @@ use lib.ListN.{length}
 use Rattle.vmd_format.specs.Refusal.{output-too-short, count-too-large, model-name-too-long}
 use Rattle.vmd_format.specs.Answer.{Answer, declined, given, and-then, map-answer, unless, fitted, within}
 use Rattle.vmd_laws.specs.AnswerLaws.{fitted-length}
-use Rattle.vmd_format.specs.Read.{Manner, lenient}
+use Rattle.vmd_format.specs.Read.{Manner, strict, lenient}
 use Rattle.vmd_format.specs.Take.{Take, older, read-take, write-edition, write-take}
 use Rattle.vmd_format.specs.Join.{export-file, edition-take, older-file, join, fit-together, join-takes, join-files}
 use Rattle.vmd_laws.specs.RefusalLaws.{here, there, reading-numbers, Refuses, among-back, reading-refuses, refuses-more, refuses-then, refuses-unless}
@@ -129,7 +129,7 @@ join-is-in-order m a b out = join-order m (length out) a b
 pub join-size-is-in-order : (m : Manner) (a b : List ℕ) → join-size m a b ≡ join-in-order m 18446744073709551615 a b
 join-size-is-in-order m a b = join-order m 18446744073709551615 a b
 
--- with which numbers, in the manner of document 01
+-- with which numbers, in the manner of document 01, the lenient one
 pub export-numbers : (s out : List ℕ) → Refuses (1 ∷ 2 ∷ 13 ∷ []) (exported-answer lenient s out)
 unfolding lenient
 export-numbers s out = rw (export-is-in-order lenient s out) (export-refuses lenient (length out) s)
@@ -141,3 +141,16 @@ older-numbers s out = rw (older-is-in-order lenient s out) (older-refuses lenien
 pub join-numbers : (a b out : List ℕ) → Refuses (1 ∷ 2 ∷ 11 ∷ 13 ∷ []) (joined-answer lenient a b out)
 unfolding lenient
 join-numbers a b out = rw (join-is-in-order lenient a b out) (join-refuses lenient (length out) a b)
+
+-- and in the strict one, 02 i)
+pub strict-export-numbers : (s out : List ℕ) → Refuses (1 ∷ 2 ∷ 17 ∷ 16 ∷ 13 ∷ []) (exported-answer strict s out)
+unfolding strict
+strict-export-numbers s out = rw (export-is-in-order strict s out) (export-refuses strict (length out) s)
+
+pub strict-older-numbers : (s out : List ℕ) → Refuses (1 ∷ 2 ∷ 17 ∷ 16 ∷ 15 ∷ 13 ∷ []) (older-answer strict s out)
+unfolding strict
+strict-older-numbers s out = rw (older-is-in-order strict s out) (older-refuses strict (length out) s)
+
+pub strict-join-numbers : (a b out : List ℕ) → Refuses (1 ∷ 2 ∷ 17 ∷ 16 ∷ 11 ∷ 13 ∷ []) (joined-answer strict a b out)
+unfolding strict
+strict-join-numbers a b out = rw (join-is-in-order strict a b out) (join-refuses strict (length out) a b)

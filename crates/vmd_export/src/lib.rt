@@ -14,7 +14,7 @@ ghost use Prim.Native.Nat.{_+_};
 ghost use lib.Dec.{leb};
 ghost use lib.ListN.{length};
 ghost use Rattle.vmd_format.specs.Answer.{given, map-answer, fitted, within, left};
-ghost use Rattle.vmd_format.specs.Read.{lenient};
+ghost use Rattle.vmd_format.specs.Read.{strict};
 ghost use Rattle.vmd_format.specs.Take.{write-edition};
 ghost use Rattle.vmd_format.specs.Fetch.{model-of};
 ghost use Rattle.vmd_format.specs.Join.{joined-model};
@@ -260,49 +260,95 @@ fn join<'a>(manner: VmdManner, out: &mut [u8], first: &'a [u8], second: &'a [u8]
     }
 }
 
-// ---- the calls, which save in the manner of opening
+// ---- the calls, with the manner of reading named
 
 // Writes the canonical file of a take at the front of out; a refusal leaves out as it was.
-pub fn export_vmd_animation(file: &[u8], out: &mut [u8]) -> VmdWritten
-    ensures { λ r. ⌜ written-answer r ≡ exported-answer lenient (now (file .entry)) (now (out .entry)) ⌝ }
-    ensures { λ r. ⌜ now (out .exit) ≡ exported-output lenient (now (file .entry)) (now (out .entry)) ⌝ }
+pub fn export_file(file: &[u8], manner: VmdManner, out: &mut [u8]) -> VmdWritten
+    ensures { λ r. ⌜ written-answer r ≡ exported-answer (manner-of manner) (now (file .entry)) (now (out .entry)) ⌝ }
+    ensures { λ r. ⌜ now (out .exit) ≡ exported-output (manner-of manner) (now (file .entry)) (now (out .entry)) ⌝ }
 {
-    export(VmdManner::Lenient, VmdEdition::Newer, out, file)
+    export(manner, VmdEdition::Newer, out, file)
 }
 
 // How long its output has to be.
-pub fn export_vmd_size(file: &[u8]) -> VmdWritten
-    ensures { λ r. ⌜ written-answer r ≡ export-size lenient (now (file .entry)) ⌝ }
+pub fn export_file_size(file: &[u8], manner: VmdManner) -> VmdWritten
+    ensures { λ r. ⌜ written-answer r ≡ export-size (manner-of manner) (now (file .entry)) ⌝ }
 {
-    export_size(VmdManner::Lenient, VmdEdition::Newer, file)
+    export_size(manner, VmdEdition::Newer, file)
 }
 
 // Writes the take in the older edition at the front of out; a refusal leaves out as it was.
-pub fn export_older_vmd_animation(file: &[u8], out: &mut [u8]) -> VmdWritten
-    ensures { λ r. ⌜ written-answer r ≡ older-answer lenient (now (file .entry)) (now (out .entry)) ⌝ }
-    ensures { λ r. ⌜ now (out .exit) ≡ older-output lenient (now (file .entry)) (now (out .entry)) ⌝ }
+pub fn export_older_file(file: &[u8], manner: VmdManner, out: &mut [u8]) -> VmdWritten
+    ensures { λ r. ⌜ written-answer r ≡ older-answer (manner-of manner) (now (file .entry)) (now (out .entry)) ⌝ }
+    ensures { λ r. ⌜ now (out .exit) ≡ older-output (manner-of manner) (now (file .entry)) (now (out .entry)) ⌝ }
 {
-    export(VmdManner::Lenient, VmdEdition::Older, out, file)
+    export(manner, VmdEdition::Older, out, file)
 }
 
 // How long its output has to be.
-pub fn export_older_vmd_size(file: &[u8]) -> VmdWritten
-    ensures { λ r. ⌜ written-answer r ≡ older-size lenient (now (file .entry)) ⌝ }
+pub fn export_older_file_size(file: &[u8], manner: VmdManner) -> VmdWritten
+    ensures { λ r. ⌜ written-answer r ≡ older-size (manner-of manner) (now (file .entry)) ⌝ }
 {
-    export_size(VmdManner::Lenient, VmdEdition::Older, file)
+    export_size(manner, VmdEdition::Older, file)
 }
 
 // Writes the join of two takes at the front of out; a refusal leaves out as it was.
-pub fn join_vmd_animations<'a>(first: &'a [u8], second: &'a [u8], out: &mut [u8]) -> VmdWritten
-    ensures { λ r. ⌜ written-answer r ≡ joined-answer lenient (now (first .entry)) (now (second .entry)) (now (out .entry)) ⌝ }
-    ensures { λ r. ⌜ now (out .exit) ≡ joined-output lenient (now (first .entry)) (now (second .entry)) (now (out .entry)) ⌝ }
+pub fn join_files<'a>(
+    first: &'a [u8],
+    second: &'a [u8],
+    manner: VmdManner,
+    out: &mut [u8],
+) -> VmdWritten
+    ensures { λ r. ⌜ written-answer r ≡ joined-answer (manner-of manner) (now (first .entry)) (now (second .entry)) (now (out .entry)) ⌝ }
+    ensures { λ r. ⌜ now (out .exit) ≡ joined-output (manner-of manner) (now (first .entry)) (now (second .entry)) (now (out .entry)) ⌝ }
 {
-    join(VmdManner::Lenient, out, first, second)
+    join(manner, out, first, second)
 }
 
 // How long its output has to be.
-pub fn join_vmd_size(first: &[u8], second: &[u8]) -> VmdWritten
-    ensures { λ r. ⌜ written-answer r ≡ join-size lenient (now (first .entry)) (now (second .entry)) ⌝ }
+pub fn join_files_size(first: &[u8], second: &[u8], manner: VmdManner) -> VmdWritten
+    ensures { λ r. ⌜ written-answer r ≡ join-size (manner-of manner) (now (first .entry)) (now (second .entry)) ⌝ }
 {
-    join_size(VmdManner::Lenient, first, second)
+    join_size(manner, first, second)
+}
+
+// ---- the same in the strict manner, which is meant where none is named
+
+pub fn export_vmd_animation(file: &[u8], out: &mut [u8]) -> VmdWritten
+    ensures { λ r. ⌜ written-answer r ≡ exported-answer strict (now (file .entry)) (now (out .entry)) ⌝ }
+    ensures { λ r. ⌜ now (out .exit) ≡ exported-output strict (now (file .entry)) (now (out .entry)) ⌝ }
+{
+    export_file(file, VmdManner::Strict, out)
+}
+
+pub fn export_vmd_size(file: &[u8]) -> VmdWritten
+    ensures { λ r. ⌜ written-answer r ≡ export-size strict (now (file .entry)) ⌝ }
+{
+    export_file_size(file, VmdManner::Strict)
+}
+
+pub fn export_older_vmd_animation(file: &[u8], out: &mut [u8]) -> VmdWritten
+    ensures { λ r. ⌜ written-answer r ≡ older-answer strict (now (file .entry)) (now (out .entry)) ⌝ }
+    ensures { λ r. ⌜ now (out .exit) ≡ older-output strict (now (file .entry)) (now (out .entry)) ⌝ }
+{
+    export_older_file(file, VmdManner::Strict, out)
+}
+
+pub fn export_older_vmd_size(file: &[u8]) -> VmdWritten
+    ensures { λ r. ⌜ written-answer r ≡ older-size strict (now (file .entry)) ⌝ }
+{
+    export_older_file_size(file, VmdManner::Strict)
+}
+
+pub fn join_vmd_animations<'a>(first: &'a [u8], second: &'a [u8], out: &mut [u8]) -> VmdWritten
+    ensures { λ r. ⌜ written-answer r ≡ joined-answer strict (now (first .entry)) (now (second .entry)) (now (out .entry)) ⌝ }
+    ensures { λ r. ⌜ now (out .exit) ≡ joined-output strict (now (first .entry)) (now (second .entry)) (now (out .entry)) ⌝ }
+{
+    join_files(first, second, VmdManner::Strict, out)
+}
+
+pub fn join_vmd_size(first: &[u8], second: &[u8]) -> VmdWritten
+    ensures { λ r. ⌜ written-answer r ≡ join-size strict (now (first .entry)) (now (second .entry)) ⌝ }
+{
+    join_files_size(first, second, VmdManner::Strict)
 }

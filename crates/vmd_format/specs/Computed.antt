@@ -9,7 +9,7 @@ use Rattle.vmd_format.specs.Layout.{number, byte, flag, inverted, name, 
 use Rattle.vmd_format.specs.Refusal
 use Rattle.vmd_format.specs.Answer.{Answer, declined, given, and-then, map-answer, unless, fitted, left}
 use Rattle.vmd_format.specs.Records.{Bone, Morph, Camera, Light, SelfShadow, IkState, bone, morph, camera, light, self-shadow, ik-state, property-head}
-use Rattle.vmd_format.specs.Read.{bind, whole-if, whole, fixed, many, table, no-section, lenient, over-count, records-if, counted-if, counted, optional, write-all, write-counted}
+use Rattle.vmd_format.specs.Read.{bind, whole-if, whole, fixed, many, table, no-section, lenient, strict, over-count, records-if, counted-if, counted, optional, write-all, write-counted}
 use Rattle.vmd_format.specs.Take.{property, take-of, magic, older-magic, magic-of, same, edition-if, edition, model-if, magic-if, header-if, header, sections, ended, read-file, answer, read-take, write-header, write-sections, write-edition, write-take}
 use Rattle.vmd_format.specs.Opening.{ik-total, take-frames, least, smallest, largest, smallest-frame, largest-frame, positions, places-needed, sixteenths, sixteenth-positions, record-count, extent-of, scan-of, opening-of, smaller-of, joined-smallest, opened, open-file, scratch-if, scratch-of, scratch-after}
 use Rattle.vmd_format.specs.Fetch.{record-place, fetch, or-empty, model-in, model-of, next-frame, next-place, walk-frames, frame-place, property-place, property-at, fetch-property, step-property, ik-extent, fetch-ik-state}
@@ -20,7 +20,7 @@ use Rattle.vmd_format.specs.Parts.{names-from, names-of, records-of, at-
 
 -- unfolding this unfolds the format's definitions
 unfoldable pub computed : Unit {0}
-unfolding u32 u32-bytes before-zero padded is-set flag-byte is-zero inverted-byte number byte flag inverted name raw _⊗_ as-record and-then map-answer unless fitted left bone morph camera light self-shadow ik-state property-head bind whole-if whole fixed many table no-section lenient over-count records-if counted-if counted optional write-all write-counted property take-of magic older-magic magic-of same edition-if edition model-if magic-if header-if header sections ended read-file answer read-take write-header write-sections write-edition write-take ik-total take-frames least smallest largest smallest-frame largest-frame positions places-needed sixteenths sixteenth-positions record-count extent-of scan-of opening-of smaller-of joined-smallest opened open-file scratch-if scratch-of scratch-after record-place fetch or-empty model-in model-of next-frame next-place walk-frames frame-place property-place property-at fetch-property step-property ik-extent fetch-ik-state export-file edition-take older-file joined-model join fits-u32 fit-together join-takes join-files between pointer runs in-runs in-index character single lead trail pair unit past fault-within fault good names-from names-of records-of at-end until-end frames frames-or-none properties-of upto bone-at morph-at take-of-parts _next_ need each ends-right table-right no-bytes-over is-got whole-parts name-check finite all-finite camera-check light-check self-shadow-check ik-check property-check columns-check counts-check bone-check morph-check parts-check built build
+unfolding u32 u32-bytes before-zero padded is-set flag-byte is-zero inverted-byte number byte flag inverted name raw _⊗_ as-record and-then map-answer unless fitted left bone morph camera light self-shadow ik-state property-head bind whole-if whole fixed many table no-section lenient strict over-count records-if counted-if counted optional write-all write-counted property take-of magic older-magic magic-of same edition-if edition model-if magic-if header-if header sections ended read-file answer read-take write-header write-sections write-edition write-take ik-total take-frames least smallest largest smallest-frame largest-frame positions places-needed sixteenths sixteenth-positions record-count extent-of scan-of opening-of smaller-of joined-smallest opened open-file scratch-if scratch-of scratch-after record-place fetch or-empty model-in model-of next-frame next-place walk-frames frame-place property-place property-at fetch-property step-property ik-extent fetch-ik-state export-file edition-take older-file joined-model join fits-u32 fit-together join-takes join-files between pointer runs in-runs in-index character single lead trail pair unit past fault-within fault good names-from names-of records-of at-end until-end frames frames-or-none properties-of upto bone-at morph-at take-of-parts _next_ need each ends-right table-right no-bytes-over is-got whole-parts name-check finite all-finite camera-check light-check self-shadow-check ik-check property-check columns-check counts-check bone-check morph-check parts-check built build
 computed = tt
 
 -- every k below n

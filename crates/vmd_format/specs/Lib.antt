@@ -20,3 +20,4 @@ pub mod Walks
 pub mod Joins
 pub mod Built
 pub mod Editions
+pub mod Manners

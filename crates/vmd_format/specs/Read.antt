@@ -6,7 +6,7 @@ use lib.ListN.{length, drop}
 use lib.Dec.{leb}
 use Rattle.vmd_format.specs.Bytes.{u32, u32-bytes}
 use Rattle.vmd_format.specs.Layout.{Layout}
-use Rattle.vmd_format.specs.Refusal.{Refusal, file-ends-early}
+use Rattle.vmd_format.specs.Refusal.{Refusal, file-ends-early, bytes-over, count-oversized}
 
 pub data Step (A : Type 0) : Type 0 where
   refused : Refusal → Step A
@@ -78,6 +78,11 @@ pub record Manner : Type 0 where
 -- ignored."
 unfoldable pub lenient : Manner
 lenient = record { oversized = emptied; over = ignored }
+
+-- 02 i): "16 bytes after the last property frame, or after its count of 0; 17 an oversized camera, light or self-shadow count;
+-- both as met in the file". Every call that reads a whole take without a named manner reads so.
+unfoldable pub strict : Manner
+strict = record { oversized = refuse count-oversized; over = turned-down bytes-over }
 
 unfoldable pub over-count : {A : Type 0} → Oversized → Step (Section A)
 over-count (refuse k) = refused k

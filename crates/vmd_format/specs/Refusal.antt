@@ -33,6 +33,10 @@ pub data Refusal : Type 0 where
   parts-do-not-fit : Refusal
   -- 02 e): the model name is over 10 bytes
   model-name-too-long : Refusal
+  -- 02 i): bytes after the last property frame, or after its count of 0
+  bytes-over : Refusal
+  -- 02 i): an oversized camera, light or self-shadow count
+  count-oversized : Refusal
 
 abbrev pub number : Refusal → ℕ
 number file-ends-early = 1
@@ -50,3 +54,5 @@ number name-index-too-large = 12
 number output-too-short = 13
 number parts-do-not-fit = 14
 number model-name-too-long = 15
+number bytes-over = 16
+number count-oversized = 17

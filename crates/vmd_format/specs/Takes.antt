@@ -5,7 +5,7 @@ use mathlib.Core.List.{List, [], _∷_, _++_}
 use lib.ListN.{length, take, drop, replicate}
 use lib.Dec.{leb, eqb, T}
 use Rattle.vmd_format.specs.Answer.{Answer, declined, given}
-use Rattle.vmd_format.specs.Read.{lenient}
+use Rattle.vmd_format.specs.Read.{strict, lenient}
 use Rattle.vmd_format.specs.Take.{Take, read-take, same}
 use Rattle.vmd_format.specs.Opening.{record-count, Opening, joined-smallest, open-file}
 use Rattle.vmd_format.specs.Join.{export-file, join-files}
@@ -37,7 +37,8 @@ one-morph n = start ++ u0 ++ u1 ++ n ++ replicate 8 0
 abbrev one-bone : List ℕ
 one-bone = start ++ u1 ++ bone-bytes 65 0 7 ++ replicate 20 0
 
--- every take marked P, in document 01's order
+-- every take marked P, in document 01's order and in the lenient manner; and 02 i), "The case start,0,0,1 of document 01 is
+-- accepted in the lenient manner and is 17 in the strict one"
 pub takes : T (
     refuses (replicate 29 65) 1
     && refuses (replicate 30 65) 2
@@ -47,6 +48,7 @@ pub takes : T (
     && refuses (start ++ u0 ++ (7 ∷ [])) 1
     && refuses (start ++ u0 ++ u1) 1
     && no-cameras (read-take lenient (start ++ u0 ++ u0 ++ u1))
+    && declines (export-file strict (start ++ u0 ++ u0 ++ u1)) 17
     && refuses (start ++ u0 ++ u0 ++ u0 ++ u0 ++ u0 ++ u1) 1
     && exports (one-camera 0) (one-camera 0 ++ u0 ++ u0 ++ u0)
     && exports (one-camera 1) (one-camera 1 ++ u0 ++ u0 ++ u0)

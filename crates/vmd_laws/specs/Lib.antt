@@ -26,3 +26,4 @@ pub mod Lengths
 pub mod ExportLaws
 pub mod EditionLaws
 pub mod OlderLaws
+pub mod MannerLaws

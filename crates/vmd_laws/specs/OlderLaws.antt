@@ -69,11 +69,11 @@ module _ (m : Manner) {s : List ℕ} {t : Take} (h : Accepted m s t) where
   pub older-fits : edition s ≡ given older → length (t .model) ≤ 10
   older-fits e = rw (take-model m s t (h .reads)) (model-fits s older e)
 
-  -- what it writes is accepted, and reads back as the take
-  pub older-accepted : length (t .model) ≤ 10 → Accepted m (write-edition older t) t
-  older-accepted n =
+  -- what it writes is accepted in every manner, and reads back as the take
+  pub older-accepted : (any : Manner) → length (t .model) ≤ 10 → Accepted any (write-edition older t) t
+  older-accepted any n =
       let w = well-formed m h in
       record {
         bytes = edition-small older t w;
-        reads = edition-back m older t w (record { short = n; none-zero = w .model .none-zero; small = w .model .small });
+        reads = edition-back any older t w (record { short = n; none-zero = w .model .none-zero; small = w .model .small });
       }

@@ -12,7 +12,7 @@ use Rattle.vmd_format.specs.Layout.{Layout}
 use Rattle.vmd_format.specs.Refusal.{Refusal, number, file-ends-early, magic-differs, scratch-too-short}
 use Rattle.vmd_format.specs.Answer.{Answer, declined, given, and-then, unless}
 use Rattle.vmd_format.specs.Records.{ik-state, property-head}
-use Rattle.vmd_format.specs.Read.{Step, refused, got, Reader, bind, Codec, whole-if, whole, fixed, many, Section, Oversized, refuse, emptied, BytesOver, ignored, turned-down, Manner, lenient, over-count, records-if, counted-if, counted, optional}
+use Rattle.vmd_format.specs.Read.{Step, refused, got, Reader, bind, Codec, whole-if, whole, fixed, many, Section, Oversized, refuse, emptied, BytesOver, ignored, turned-down, Manner, strict, lenient, over-count, records-if, counted-if, counted, optional}
 use Rattle.vmd_format.specs.Take.{Take, File, take-of, property, magic, older-magic, same, edition-if, edition, model-if, magic-if, header-if, header, ended, sections, read-file, answer, read-take}
 use Rattle.vmd_format.specs.Opening.{places-needed, Opening, opening-of, opened, open-file}
 use Rattle.vmd_laws.specs.OpeningLaws.{take-opens, ScratchEnough}
@@ -236,7 +236,11 @@ module _ (m : Manner) where
       go (declined k) e r = rw (opening-reads-first s places k e) r
       go (given t) e r = rw (take-opens m s t places e (h t e) .1) tt
 
--- "Opening: 1, 2, 3", as document 01 reads
+-- "Opening: 1, 2, 3", in the lenient manner, as document 01 reads; and 02 i), 17 and 16 in the strict one
 pub opening-numbers : (s : List ℕ) (places : ℕ) → Refuses (1 ∷ 2 ∷ 3 ∷ []) (open-file lenient s places)
 unfolding lenient
 opening-numbers s places = opening-refuses lenient s places
+
+pub strict-opening-numbers : (s : List ℕ) (places : ℕ) → Refuses (1 ∷ 2 ∷ 17 ∷ 16 ∷ 3 ∷ []) (open-file strict s places)
+unfolding strict
+strict-opening-numbers s places = opening-refuses strict s places

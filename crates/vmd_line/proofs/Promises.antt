@@ -18,7 +18,7 @@ use Rattle.vmd_laws.specs.OpeningLaws.{ninth-enough}
 use Rattle.vmd_laws.specs.InsideLaws.{opened-scan}
 use Rattle.vmd_laws.specs.RefusalLaws.{Refuses, reading-numbers, enough-refuses}
 use Rattle.vmd_laws.specs.ExportLaws.{take-in, export-by-places, scan-scanned, scan-counts, scan-length}
-use Rattle.vmd_format.specs.Computed.{computed, start, u0}
+use Rattle.vmd_format.specs.Computed.{computed, start, u0, u1}
 use Rattle.vmd_text.specs.Text.{tens-if, digits, decimal}
 use Rattle.vmd_line.specs.Line.{spaced, row, too-long, refused-line, export-size, numbers, line-of, line-if, line, line-scratch-if, line-scratch}
 
@@ -61,12 +61,15 @@ refused-early s h = scratch-is-enough lenient s h
 
 -- ---- examples
 
--- numbers in decimal, the line of "start,0", and those of files that are refused with 1 and with 2
+-- numbers in decimal, the line of "start,0", the same of "start,0,0,1" and of a byte over (02 i: it is the lenient manner's), and
+-- those of files that are refused with 1 and with 2
 pub examples : T (
     same (decimal 0) (48 ∷ [])
     && same (decimal 10) (49 ∷ 48 ∷ [])
     && same (decimal 65536) (54 ∷ 53 ∷ 53 ∷ 51 ∷ 54 ∷ [])
     && same (line lenient (start ++ u0) 0) (48 ∷ 32 ∷ 48 ∷ 32 ∷ 48 ∷ 32 ∷ 48 ∷ 32 ∷ 48 ∷ 32 ∷ 48 ∷ 32 ∷ 48 ∷ 32 ∷ 48 ∷ 32 ∷ 48 ∷ 32 ∷ 55 ∷ 52 ∷ 10 ∷ [])
+    && same (line lenient (start ++ u0 ++ u0 ++ u1) 0) (line lenient (start ++ u0) 0)
+    && same (line lenient (start ++ replicate 25 0) 0) (line lenient (start ++ u0) 0)
     && same (line lenient start 0) (114 ∷ 101 ∷ 102 ∷ 117 ∷ 115 ∷ 101 ∷ 100 ∷ 32 ∷ 49 ∷ 10 ∷ [])
     && same (line lenient (replicate 30 65) 0) (114 ∷ 101 ∷ 102 ∷ 117 ∷ 115 ∷ 101 ∷ 100 ∷ 32 ∷ 50 ∷ 10 ∷ []))
 unfolding computed file-length tens-if digits decimal spaced row too-long refused-line export-size numbers line-of line-if line

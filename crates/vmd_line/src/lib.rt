@@ -108,7 +108,7 @@ fn write_line(file: &[u8], manner: VmdManner, scratch: &mut [u64], out: &mut [u8
     }
 }
 
-// The line that vmd-list prints: the lenient manner.
+// The line that vmd-list prints: that of the lenient manner (02 i).
 pub fn list_line(file: &[u8], scratch: &mut [u64], out: &mut [u8; LINE_SIZE]) -> usize
     ensures { λ _. ⌜ now (out .exit) ≡ splice (now (out .entry)) 0 (line lenient (now (file .entry)) (length (now (scratch .entry)))) ⌝ }
     ensures { λ r. ⌜ r ≡ length (line lenient (now (file .entry)) (length (now (scratch .entry)))) ⌝ }

@@ -18,7 +18,7 @@ ghost use mathlib.Core.Path.{_≡_};
 ghost use lib.ListN.{length};
 ghost use Rattle.vmd_format.specs.Answer.{given, map-answer};
 ghost use Rattle.vmd_format.specs.Records.{bone, morph, camera, light, self-shadow};
-ghost use Rattle.vmd_format.specs.Read.{lenient};
+ghost use Rattle.vmd_format.specs.Read.{strict};
 ghost use Rattle.vmd_format.specs.Opening.{open-file, scratch-after};
 ghost use Rattle.vmd_laws.specs.Places.{open-scan, scan-scratch};
 ghost use Rattle.vmd_laws.specs.ScanLaws.{Inside};
@@ -124,12 +124,12 @@ pub fn open_file(file: &[u8], manner: VmdManner, scratch: &mut [u64]) -> VmdOpen
     }
 }
 
-// The same in the manner that is meant where none is named.
+// The same in the strict manner, which is meant where none is named.
 pub fn parse_vmd_animation(file: &[u8], scratch: &mut [u64]) -> VmdOpened
-    ensures { λ r. ⌜ opening-answer r ≡ open-file lenient (now (file .entry)) (length (now (scratch .entry))) ⌝ }
-    ensures { λ r. ⌜ now (scratch .exit) ≡ scratch-after lenient (now (file .entry)) (now (scratch .entry)) ⌝ }
+    ensures { λ r. ⌜ opening-answer r ≡ open-file strict (now (file .entry)) (length (now (scratch .entry))) ⌝ }
+    ensures { λ r. ⌜ now (scratch .exit) ≡ scratch-after strict (now (file .entry)) (now (scratch .entry)) ⌝ }
 {
-    open_file(file, VmdManner::Lenient, scratch)
+    open_file(file, VmdManner::Strict, scratch)
 }
 
 // ---- records by number

@@ -108,6 +108,7 @@ fn oversized_in(manner: VmdManner) -> Oversized
     ensures { λ r. ⌜ oversized-of r ≡ manner-of manner .oversized ⌝ }
 {
     match manner {
+        VmdManner::Strict => Oversized::Refused(VmdRefusal::CountOversized),
         VmdManner::Lenient => Oversized::Emptied,
     }
 }
@@ -116,6 +117,7 @@ fn over_in(manner: VmdManner) -> BytesOver
     ensures { λ r. ⌜ over-of r ≡ manner-of manner .over ⌝ }
 {
     match manner {
+        VmdManner::Strict => BytesOver::Refused(VmdRefusal::BytesOver),
         VmdManner::Lenient => BytesOver::Ignored,
     }
 }
@@ -389,10 +391,10 @@ fn all_sections(front: FrontSections, back: BackSections, ik_states: u64) -> Vmd
     }
 }
 
-// The property frames and the bytes after them.
-fn scan_end(file: &[u8], over: BytesOver, front: FrontSections, back: BackSections) -> ScanAnswer
+// The property frames and the bytes after them. What these do is asked after the walk, whose loop so has registers enough.
+fn scan_end(file: &[u8], manner: VmdManner, front: FrontSections, back: BackSections) -> ScanAnswer
     requires { ⌜ back .properties .place ≤ length (now file) ⌝ }
-    ensures { λ r. ⌜ scan-answer r ≡ scan-end (over-of over) (now (file .entry)) (front-is front) (back-is back) ⌝ }
+    ensures { λ r. ⌜ scan-answer r ≡ scan-end (manner-of manner .over) (now (file .entry)) (front-is front) (back-is back) ⌝ }
 {
     let properties = back.properties;
     let place = properties.place;
@@ -401,7 +403,7 @@ fn scan_end(file: &[u8], over: BytesOver, front: FrontSections, back: BackSectio
         WalkAnswer::Walked { next, ik_states } => ended_at(
             file,
             next,
-            over,
+            over_in(manner),
             all_sections(front, back, ik_states),
         ),
     }
@@ -413,12 +415,11 @@ pub fn scan_sections(file: &[u8], start: ByteReader, manner: VmdManner) -> ScanA
     ensures { λ r. ⌜ scan-answer r ≡ scan-sections (manner-of manner) (now (file .entry)) (start .pos) ⌝ }
 {
     let oversized = oversized_in(manner);
-    let over = over_in(manner);
     match scan_front(file, start, oversized) {
         FrontAnswer::Refused(k) => ScanAnswer::Refused(k),
         FrontAnswer::Found(front) => match scan_back(file, front.next, oversized) {
             BackAnswer::Refused(k) => ScanAnswer::Refused(k),
-            BackAnswer::Found(back) => scan_end(file, over, front, back),
+            BackAnswer::Found(back) => scan_end(file, manner, front, back),
         },
     }
 }

@@ -232,7 +232,7 @@ impl VmdSeason {
         }
     }
 
-    // The figures with one take more.
+    // The figures with one take more, which is read in the lenient manner (02 i).
     pub fn add(self, file: &[u8]) -> VmdSeason
         ensures { λ r. ⌜ season-is r ≡ with-file lenient (season-is self) (now (file .entry)) ⌝ }
     {

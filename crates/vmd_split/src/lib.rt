@@ -19,10 +19,10 @@ ghost use mathlib.Core.Bool.{true, _&&_};
 ghost use Prim.Native.Nat.{_+_, _*_, _≤_};
 ghost use lib.Dec.{leb};
 ghost use lib.ListN.{length};
-ghost use Rattle.vmd_format.specs.Read.{lenient};
+ghost use Rattle.vmd_format.specs.Read.{strict};
 ghost use Rattle.vmd_laws.specs.ScanLaws.{ExtentWithin};
 ghost use Rattle.vmd_laws.specs.ExportLaws.{Scanned};
-ghost use Rattle.vmd_base.specs.Meaning.{extent-is};
+ghost use Rattle.vmd_base.specs.Meaning.{extent-is, manner-of};
 ghost use Rattle.vmd_scan.specs.Meaning.{scan-is};
 ghost use Rattle.vmd_keys.specs.Names.{names-in};
 ghost use Rattle.vmd_tables.specs.Tables.{name-table};
@@ -364,12 +364,13 @@ fn write_morph_parts(
     table
 }
 
-// ---- the calls
+// ---- the calls, with the manner of reading named
 
 // Splits the file's take into parts, each at the front of its buffer; a refusal leaves every buffer as it was. A float is its
 // 32 bits.
-pub fn split_vmd_animation_into_parts(
+pub fn split_file(
     file: &[u8],
+    manner: VmdManner,
     bone_name_bytes: &mut [u8],
     bone_name_ends: &mut [u32],
     morph_name_bytes: &mut [u8],
@@ -387,7 +388,7 @@ pub fn split_vmd_animation_into_parts(
     morph_frames: &mut [u32],
     morph_weights: &mut [u32],
 ) -> VmdSplit
-    ensures { λ r. ⌜ split-is r ≡ split-answer lenient (now (file .entry)) (buffers (now («bone_name_bytes» .entry)) (now («bone_name_ends» .entry)) (now («morph_name_bytes» .entry)) (now («morph_name_ends» .entry))
+    ensures { λ r. ⌜ split-is r ≡ split-answer (manner-of manner) (now (file .entry)) (buffers (now («bone_name_bytes» .entry)) (now («bone_name_ends» .entry)) (now («morph_name_bytes» .entry)) (now («morph_name_ends» .entry))
         (now («camera_frames» .entry)) (now («light_frames» .entry)) (now («self_shadow_frames» .entry)) (now («property_frames» .entry))
         (now («bone_name_indices» .entry)) (now («bone_frames» .entry)) (now («bone_translations_xyz» .entry)) (now («bone_rotations_xyzw» .entry))
         (now («bone_interpolations» .entry)) (now («morph_name_indices» .entry)) (now («morph_frames» .entry)) (now («morph_weights» .entry))) ⌝ }
@@ -399,12 +400,12 @@ pub fn split_vmd_animation_into_parts(
         (now («camera_frames» .entry)) (now («light_frames» .entry)) (now («self_shadow_frames» .entry)) (now («property_frames» .entry))
         (now («bone_name_indices» .entry)) (now («bone_frames» .entry)) (now («bone_translations_xyz» .entry)) (now («bone_rotations_xyzw» .entry))
         (now («bone_interpolations» .entry)) (now («morph_name_indices» .entry)) (now («morph_frames» .entry)) (now («morph_weights» .entry)))
-        (split lenient (now (file .entry)) (buffers (now («bone_name_bytes» .entry)) (now («bone_name_ends» .entry)) (now («morph_name_bytes» .entry)) (now («morph_name_ends» .entry))
+        (split (manner-of manner) (now (file .entry)) (buffers (now («bone_name_bytes» .entry)) (now («bone_name_ends» .entry)) (now («morph_name_bytes» .entry)) (now («morph_name_ends» .entry))
         (now («camera_frames» .entry)) (now («light_frames» .entry)) (now («self_shadow_frames» .entry)) (now («property_frames» .entry))
         (now («bone_name_indices» .entry)) (now («bone_frames» .entry)) (now («bone_translations_xyz» .entry)) (now («bone_rotations_xyzw» .entry))
         (now («bone_interpolations» .entry)) (now («morph_name_indices» .entry)) (now («morph_frames» .entry)) (now («morph_weights» .entry)))) ⌝ }
 {
-    match vmd_scan::scan_file(file, VmdManner::Lenient) {
+    match vmd_scan::scan_file(file, manner) {
         ScanAnswer::Refused(k) => VmdSplit::Refused(k),
         ScanAnswer::Scanned(a) => {
             if !parts_fit(
@@ -468,10 +469,10 @@ pub fn split_vmd_animation_into_parts(
 }
 
 // How many names and name bytes each table has.
-pub fn split_vmd_sizes(file: &[u8]) -> VmdSplit
-    ensures { λ r. ⌜ split-is r ≡ split-sizes lenient (now (file .entry)) ⌝ }
+pub fn split_file_sizes(file: &[u8], manner: VmdManner) -> VmdSplit
+    ensures { λ r. ⌜ split-is r ≡ split-sizes (manner-of manner) (now (file .entry)) ⌝ }
 {
-    match vmd_scan::scan_file(file, VmdManner::Lenient) {
+    match vmd_scan::scan_file(file, manner) {
         ScanAnswer::Refused(k) => VmdSplit::Refused(k),
         ScanAnswer::Scanned(a) => {
             let bones = vmd_count::count_names(
@@ -498,4 +499,70 @@ pub fn split_vmd_sizes(file: &[u8]) -> VmdSplit
             VmdSplit::Refused(VmdRefusal::PartsDoNotFit)
         }
     }
+}
+
+// ---- the same in the strict manner, which is meant where none is named
+
+pub fn split_vmd_animation_into_parts(
+    file: &[u8],
+    bone_name_bytes: &mut [u8],
+    bone_name_ends: &mut [u32],
+    morph_name_bytes: &mut [u8],
+    morph_name_ends: &mut [u32],
+    camera_frames: &mut [u8],
+    light_frames: &mut [u8],
+    self_shadow_frames: &mut [u8],
+    property_frames: &mut [u8],
+    bone_name_indices: &mut [u32],
+    bone_frames: &mut [u32],
+    bone_translations_xyz: &mut [u32],
+    bone_rotations_xyzw: &mut [u32],
+    bone_interpolations: &mut [u8],
+    morph_name_indices: &mut [u32],
+    morph_frames: &mut [u32],
+    morph_weights: &mut [u32],
+) -> VmdSplit
+    ensures { λ r. ⌜ split-is r ≡ split-answer strict (now (file .entry)) (buffers (now («bone_name_bytes» .entry)) (now («bone_name_ends» .entry)) (now («morph_name_bytes» .entry)) (now («morph_name_ends» .entry))
+        (now («camera_frames» .entry)) (now («light_frames» .entry)) (now («self_shadow_frames» .entry)) (now («property_frames» .entry))
+        (now («bone_name_indices» .entry)) (now («bone_frames» .entry)) (now («bone_translations_xyz» .entry)) (now («bone_rotations_xyzw» .entry))
+        (now («bone_interpolations» .entry)) (now («morph_name_indices» .entry)) (now («morph_frames» .entry)) (now («morph_weights» .entry))) ⌝ }
+    ensures { λ _. ⌜ buffers (now («bone_name_bytes» .exit)) (now («bone_name_ends» .exit)) (now («morph_name_bytes» .exit)) (now («morph_name_ends» .exit))
+        (now («camera_frames» .exit)) (now («light_frames» .exit)) (now («self_shadow_frames» .exit)) (now («property_frames» .exit))
+        (now («bone_name_indices» .exit)) (now («bone_frames» .exit)) (now («bone_translations_xyz» .exit)) (now («bone_rotations_xyzw» .exit))
+        (now («bone_interpolations» .exit)) (now («morph_name_indices» .exit)) (now («morph_frames» .exit)) (now («morph_weights» .exit))
+        ≡ parts-left (buffers (now («bone_name_bytes» .entry)) (now («bone_name_ends» .entry)) (now («morph_name_bytes» .entry)) (now («morph_name_ends» .entry))
+        (now («camera_frames» .entry)) (now («light_frames» .entry)) (now («self_shadow_frames» .entry)) (now («property_frames» .entry))
+        (now («bone_name_indices» .entry)) (now («bone_frames» .entry)) (now («bone_translations_xyz» .entry)) (now («bone_rotations_xyzw» .entry))
+        (now («bone_interpolations» .entry)) (now («morph_name_indices» .entry)) (now («morph_frames» .entry)) (now («morph_weights» .entry)))
+        (split strict (now (file .entry)) (buffers (now («bone_name_bytes» .entry)) (now («bone_name_ends» .entry)) (now («morph_name_bytes» .entry)) (now («morph_name_ends» .entry))
+        (now («camera_frames» .entry)) (now («light_frames» .entry)) (now («self_shadow_frames» .entry)) (now («property_frames» .entry))
+        (now («bone_name_indices» .entry)) (now («bone_frames» .entry)) (now («bone_translations_xyz» .entry)) (now («bone_rotations_xyzw» .entry))
+        (now («bone_interpolations» .entry)) (now («morph_name_indices» .entry)) (now («morph_frames» .entry)) (now («morph_weights» .entry)))) ⌝ }
+{
+    split_file(
+        file,
+        VmdManner::Strict,
+        bone_name_bytes,
+        bone_name_ends,
+        morph_name_bytes,
+        morph_name_ends,
+        camera_frames,
+        light_frames,
+        self_shadow_frames,
+        property_frames,
+        bone_name_indices,
+        bone_frames,
+        bone_translations_xyz,
+        bone_rotations_xyzw,
+        bone_interpolations,
+        morph_name_indices,
+        morph_frames,
+        morph_weights,
+    )
+}
+
+pub fn split_vmd_sizes(file: &[u8]) -> VmdSplit
+    ensures { λ r. ⌜ split-is r ≡ split-sizes strict (now (file .entry)) ⌝ }
+{
+    split_file_sizes(file, VmdManner::Strict)
 }

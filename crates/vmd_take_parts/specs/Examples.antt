@@ -7,11 +7,11 @@ use mathlib.Core.List.{List, [], _∷_, _++_}
 use lib.ListN.{replicate}
 use lib.Dec.{T, eqb}
 use Rattle.vmd_format.specs.Answer.{given, and-then}
-use Rattle.vmd_format.specs.Read.{lenient}
+use Rattle.vmd_format.specs.Read.{strict, lenient}
 use Rattle.vmd_format.specs.Take.{read-take}
 use Rattle.vmd_format.specs.Join.{export-file}
 use Rattle.vmd_format.specs.Parts.{Parts, build}
-use Rattle.vmd_format.specs.Computed.{computed, declines, start, fours, u1, bone-bytes, morph-bytes, camera-bytes, light-bytes, shadow-bytes, ik-bytes, every}
+use Rattle.vmd_format.specs.Computed.{computed, declines, start, fours, u0, u1, bone-bytes, morph-bytes, camera-bytes, light-bytes, shadow-bytes, ik-bytes, every}
 use Rattle.vmd_keys.specs.Names.{keep-if, select, distinct, bone-names-of, morph-names-of}
 use Rattle.vmd_tables.specs.Tables.{joined, ends-from, table-of-names, index-if, index-of, name-table, name-indices}
 use Rattle.vmd_take_parts.specs.Split.{translation, rotation, parts-of-take, table-within, table-fits, bones-fit, morphs-fit, records-fit, parts-fit, split, TableSizes, table-sizes, split-answer, parts-left, buffers, split-sizes}
@@ -139,3 +139,16 @@ pub built-told :
     × T (declines (and-then (read-take lenient (file 3)) (λ t. build (parts-of-take t))) 9)
 unfolding computed parts-computed
 built-told = (refl, tt)
+
+-- 02 i): 16 and 17 before 14, and nothing is written; what both manners accept is split alike
+pub manners-told :
+    T (declines (split strict (file 3 ++ (0 ∷ [])) (shorter 5)) 16)
+    × (parts-left (longer 4) (split strict (file 3 ++ (0 ∷ [])) (longer 4)) ≡ longer 4)
+    × (parts-left (longer 4) (split lenient (file 3 ++ (0 ∷ [])) (longer 4)) ≡ told 3 4)
+    × T (declines (split strict (start ++ u0 ++ u0 ++ u1) (shorter 5)) 17)
+    × T (declines (split-sizes strict (file 3 ++ (0 ∷ []))) 16)
+    × T (declines (split-sizes strict (start ++ u0 ++ u0 ++ u1)) 17)
+    × (split strict (file 3) (longer 0) ≡ given (told 3 0))
+    × (split-sizes strict (file 3) ≡ given sizes)
+unfolding computed parts-computed
+manners-told = (tt, refl, refl, tt, tt, tt, refl, refl)

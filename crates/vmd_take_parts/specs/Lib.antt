@@ -5,5 +5,6 @@ pub mod Columns
 pub mod PartsMean
 pub mod Rebuilding
 pub mod SplitRefusals
+pub mod SplitManners
 pub mod Given
 pub mod Examples

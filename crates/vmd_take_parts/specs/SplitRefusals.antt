@@ -6,7 +6,7 @@ use mathlib.Core.Bool.{Bool}
 use mathlib.Core.List.{List, [], _∷_, _++_}
 use Rattle.vmd_format.specs.Refusal.{Refusal, parts-do-not-fit}
 use Rattle.vmd_format.specs.Answer.{Answer, declined, given, and-then, map-answer, unless}
-use Rattle.vmd_format.specs.Read.{Manner, lenient}
+use Rattle.vmd_format.specs.Read.{Manner, strict, lenient}
 use Rattle.vmd_format.specs.Take.{Take, read-take}
 use Rattle.vmd_format.specs.Parts.{Parts}
 use Rattle.vmd_laws.specs.RefusalLaws.{here, reading-numbers, Refuses, among-back, reading-refuses, refuses-more, refuses-then, refuses-unless}
@@ -61,7 +61,7 @@ module _ (m : Manner) where
   unfolding parts-left
   refused-keeps s lent k e = rw e
 
--- 1, 2 and 14, as document 01 reads
+-- 1, 2 and 14 in the lenient manner, as document 01 reads; 17 and 16 too in the strict one
 pub split-numbers : (s : List ℕ) (lent : Parts) → Refuses (1 ∷ 2 ∷ 14 ∷ []) (split-answer lenient s lent)
 unfolding lenient
 split-numbers s lent = split-answer-refuses lenient s lent
@@ -69,3 +69,11 @@ split-numbers s lent = split-answer-refuses lenient s lent
 pub split-sizes-numbers : (s : List ℕ) → Refuses (1 ∷ 2 ∷ 14 ∷ []) (split-sizes lenient s)
 unfolding lenient
 split-sizes-numbers s = split-sizes-refuses lenient s
+
+pub strict-split-numbers : (s : List ℕ) (lent : Parts) → Refuses (1 ∷ 2 ∷ 17 ∷ 16 ∷ 14 ∷ []) (split-answer strict s lent)
+unfolding strict
+strict-split-numbers s lent = split-answer-refuses strict s lent
+
+pub strict-split-sizes-numbers : (s : List ℕ) → Refuses (1 ∷ 2 ∷ 17 ∷ 16 ∷ 14 ∷ []) (split-sizes strict s)
+unfolding strict
+strict-split-sizes-numbers s = split-sizes-refuses strict s

@@ -5,9 +5,9 @@ use mathlib.Core.Bool.{Bool, not, _&&_}
 use mathlib.Core.List.{List, [], _∷_, _++_}
 use lib.ListN.{replicate}
 use lib.Dec.{T}
-use Rattle.vmd_format.specs.Refusal.{file-ends-early, scratch-too-short, output-too-short}
+use Rattle.vmd_format.specs.Refusal.{file-ends-early, scratch-too-short, output-too-short, bytes-over, count-oversized}
 use Rattle.vmd_format.specs.Answer.{declined, given, map-answer}
-use Rattle.vmd_format.specs.Read.{lenient}
+use Rattle.vmd_format.specs.Read.{strict, lenient}
 use Rattle.vmd_format.specs.Computed.{computed, declines, bytes-of, text, start, older-text, fours, u0, counting, one-each, camera-bytes, light-bytes, shadow-bytes, ik-bytes}
 use Rattle.vmd_keys.specs.Names.{keep-if, select, distinct}
 use Rattle.vmd_tracks.specs.Tracks.{put-if, put, put-all, lasts, track, lay, tidy-section, one-track, any, same-slot, dropped}
@@ -226,3 +226,17 @@ pub size-told :
     × (size-answer lenient start (7 ∷ []) ≡ declined file-ends-early) × (size-scratch lenient start (7 ∷ []) ≡ 7 ∷ [])
 unfolding computed tidy-computed
 size-told = (refl, refl, refl, refl, refl, refl)
+
+-- 02 i): 16 and 17 before 3 and 13, output and scratch as they were; the lenient manner tidies such a file; and what both
+-- accept is tidied alike
+pub manners-told :
+    (tidied-answer strict (one ++ (0 ∷ [])) [] [] ≡ declined bytes-over)
+    × (tidied-output strict (one ++ (0 ∷ [])) (7 ∷ 6 ∷ []) (replicate 85 9) ≡ replicate 85 9)
+    × (tidied-scratch strict (one ++ (0 ∷ [])) (7 ∷ 6 ∷ []) (replicate 85 9) ≡ 7 ∷ 6 ∷ [])
+    × (tidied-output lenient (one ++ (0 ∷ [])) (7 ∷ 6 ∷ []) (replicate 85 9) ≡ one ++ (9 ∷ 9 ∷ []))
+    × (size-answer strict (start ++ u0 ++ u0 ++ fours (1 ∷ [])) [] ≡ declined count-oversized)
+    × (size-scratch strict (start ++ u0 ++ u0 ++ fours (1 ∷ [])) (7 ∷ []) ≡ 7 ∷ [])
+    × (tidied-answer strict two (7 ∷ 6 ∷ 5 ∷ []) (replicate 85 9) ≡ given done)
+    × (tidied-output strict two (7 ∷ 6 ∷ 5 ∷ []) (replicate 85 9) ≡ one ++ (9 ∷ 9 ∷ []))
+unfolding computed tidy-computed
+manners-told = (refl, refl, refl, refl, refl, refl, refl, refl)

@@ -4,4 +4,5 @@ pub mod Stages
 pub mod StageLaws
 pub mod Meaning
 pub mod Tidying
+pub mod Manners
 pub mod Examples

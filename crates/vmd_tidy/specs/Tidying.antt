@@ -108,15 +108,19 @@ module _ (m : Manner) where
           let y = scan-scanned m s x p in
           rw (← q, largest-is s x y) (ninth-count s x (y .inside))
 
-  -- what is written is accepted and reads back as the tidied take
-  pub tidied-back : {s : List ℕ} {t : Take} (scratch out : List ℕ) → Accepted m s t → Enough t scratch out
-      → Reads m (tidied m s scratch out) (tidy t)
+  -- what is written is accepted and reads back as the tidied take, in every manner
+  pub tidied-back-in : (any : Manner) {s : List ℕ} {t : Take} (scratch out : List ℕ) → Accepted m s t → Enough t scratch out
+      → Reads any (tidied m s scratch out) (tidy t)
   unfolding tidied-file tidy
-  tidied-back {s} {t} scratch out h n = record {
+  tidied-back-in any {s} {t} scratch out h n = record {
     file = tidied-file t;
     is = tidied-is scratch out h n;
-    accepted = written-accepted m (tidy t) (tidy-well-formed whole-name (well-formed m h));
+    accepted = written-accepted any (tidy t) (tidy-well-formed whole-name (well-formed m h));
   }
+
+  pub tidied-back : {s : List ℕ} {t : Take} (scratch out : List ℕ) → Accepted m s t → Enough t scratch out
+      → Reads m (tidied m s scratch out) (tidy t)
+  tidied-back = tidied-back-in m
 
   back : {s : List ℕ} {t : Take} → Accepted m s t → read-take m (tidied-file t) ≡ given (tidy t)
   unfolding tidied-file tidy

@@ -12,7 +12,7 @@ ghost use Prim.Native.Nat.{_≤_, max};
 ghost use lib.Dec.{leb};
 ghost use lib.ListN.{length};
 ghost use Rattle.vmd_format.specs.Answer.{map-answer, left};
-ghost use Rattle.vmd_format.specs.Read.{lenient};
+ghost use Rattle.vmd_format.specs.Read.{strict};
 ghost use Rattle.vmd_format.specs.Take.{write-take};
 ghost use Rattle.vmd_format.specs.Opening.{ik-total};
 ghost use Rattle.vmd_laws.specs.ExportLaws.{Scanned, take-in};
@@ -333,9 +333,16 @@ fn measure_scanned(scratch: &mut [u64], s: &[u8], x: VmdSections) -> VmdTidyAnsw
     VmdTidyAnswer::Tidied(done)
 }
 
-// ---- the calls, in the manner of opening
+// ---- the calls, with the manner of reading named
 
-fn tidy(manner: VmdManner, file: &[u8], scratch: &mut [u64], out: &mut [u8]) -> VmdTidyAnswer
+// Writes the tidied file of a take at the front of out. The scratch has a place for each record of the largest section; after
+// success these hold 0. A refusal leaves out and scratch as they were.
+pub fn tidy_file(
+    file: &[u8],
+    manner: VmdManner,
+    scratch: &mut [u64],
+    out: &mut [u8],
+) -> VmdTidyAnswer
     ensures { λ r. ⌜ tidy-answer r ≡ tidied-answer (manner-of manner) (now (file .entry)) (now (scratch .entry)) (now (out .entry)) ⌝ }
     ensures { λ r. ⌜ now (out .exit) ≡ tidied-output (manner-of manner) (now (file .entry)) (now (scratch .entry)) (now (out .entry)) ⌝ }
     ensures { λ r. ⌜ now (scratch .exit) ≡ tidied-scratch (manner-of manner) (now (file .entry)) (now (scratch .entry)) (now (out .entry)) ⌝ }
@@ -346,7 +353,8 @@ fn tidy(manner: VmdManner, file: &[u8], scratch: &mut [u64], out: &mut [u8]) -> 
     }
 }
 
-fn tidy_size(manner: VmdManner, file: &[u8], scratch: &mut [u64]) -> VmdTidyAnswer
+// How long its output has to be. The scratch is that of the call, and is left as the call leaves it.
+pub fn tidy_file_size(file: &[u8], manner: VmdManner, scratch: &mut [u64]) -> VmdTidyAnswer
     ensures { λ r. ⌜ tidy-answer r ≡ size-answer (manner-of manner) (now (file .entry)) (now (scratch .entry)) ⌝ }
     ensures { λ r. ⌜ now (scratch .exit) ≡ size-scratch (manner-of manner) (now (file .entry)) (now (scratch .entry)) ⌝ }
 {
@@ -356,20 +364,19 @@ fn tidy_size(manner: VmdManner, file: &[u8], scratch: &mut [u64]) -> VmdTidyAnsw
     }
 }
 
-// Writes the tidied file of a take at the front of out. The scratch has a place for each record of the largest section; after
-// success these hold 0. A refusal leaves out and scratch as they were.
+// ---- the same in the strict manner, which is meant where none is named
+
 pub fn tidy_vmd_animation(file: &[u8], scratch: &mut [u64], out: &mut [u8]) -> VmdTidyAnswer
-    ensures { λ r. ⌜ tidy-answer r ≡ tidied-answer lenient (now (file .entry)) (now (scratch .entry)) (now (out .entry)) ⌝ }
-    ensures { λ r. ⌜ now (out .exit) ≡ tidied-output lenient (now (file .entry)) (now (scratch .entry)) (now (out .entry)) ⌝ }
-    ensures { λ r. ⌜ now (scratch .exit) ≡ tidied-scratch lenient (now (file .entry)) (now (scratch .entry)) (now (out .entry)) ⌝ }
+    ensures { λ r. ⌜ tidy-answer r ≡ tidied-answer strict (now (file .entry)) (now (scratch .entry)) (now (out .entry)) ⌝ }
+    ensures { λ r. ⌜ now (out .exit) ≡ tidied-output strict (now (file .entry)) (now (scratch .entry)) (now (out .entry)) ⌝ }
+    ensures { λ r. ⌜ now (scratch .exit) ≡ tidied-scratch strict (now (file .entry)) (now (scratch .entry)) (now (out .entry)) ⌝ }
 {
-    tidy(VmdManner::Lenient, file, scratch, out)
+    tidy_file(file, VmdManner::Strict, scratch, out)
 }
 
-// How long its output has to be. The scratch is that of the call, and is left as the call leaves it.
 pub fn tidy_vmd_size(file: &[u8], scratch: &mut [u64]) -> VmdTidyAnswer
-    ensures { λ r. ⌜ tidy-answer r ≡ size-answer lenient (now (file .entry)) (now (scratch .entry)) ⌝ }
-    ensures { λ r. ⌜ now (scratch .exit) ≡ size-scratch lenient (now (file .entry)) (now (scratch .entry)) ⌝ }
+    ensures { λ r. ⌜ tidy-answer r ≡ size-answer strict (now (file .entry)) (now (scratch .entry)) ⌝ }
+    ensures { λ r. ⌜ now (scratch .exit) ≡ size-scratch strict (now (file .entry)) (now (scratch .entry)) ⌝ }
 {
-    tidy_size(VmdManner::Lenient, file, scratch)
+    tidy_file_size(file, VmdManner::Strict, scratch)
 }

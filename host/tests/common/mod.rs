@@ -6,6 +6,11 @@ use std::path::{Path, PathBuf};
 use std::process::{Command, Output};
 use std::sync::atomic::{AtomicU32, Ordering};
 
+use vmd::{Error, Manner, PartsMut};
+
+/// The manners of reading a whole take.
+pub const BOTH: [Manner; 2] = [Manner::Strict, Manner::Lenient];
+
 /// The magic and a zero model name: 50 bytes.
 pub fn start() -> Vec<u8> {
     let mut file = b"Vocaloid Motion Data 0002".to_vec();
@@ -69,6 +74,49 @@ pub fn examples() -> Vec<Vec<u8>> {
     let files: Vec<_> = fs::read_dir(folder).unwrap().map(|entry| fs::read(entry.unwrap().path()).unwrap()).collect();
     assert!(files.len() > 1);
     files
+}
+
+/// The number of a refusal; 0 where there is none.
+pub fn number<T, E: Into<Error>>(answer: Result<T, E>) -> u32 {
+    match answer.err().map(Into::into) {
+        None => 0,
+        Some(Error::Refused(refusal)) => refusal.number(),
+        Some(error) => panic!("{error}"),
+    }
+}
+
+/// What every call that reads a whole take answers in a manner for a file that is refused, whether it is lent nothing or plenty,
+/// which stays as it was.
+pub fn refused_by_all(manner: Manner, file: &[u8]) -> u32 {
+    let good = counts(&[0; 6]);
+    let mut numbers = vec![
+        number(manner.open(file)),
+        number(manner.export(file)),
+        number(manner.export_size(file)),
+        number(manner.export_older(file)),
+        number(manner.export_older_size(file)),
+        number(manner.join(file, &good)),
+        number(manner.join(&good, file)),
+        number(manner.join_size(file, &good)),
+        number(manner.join_size(&good, file)),
+        number(manner.tidy(file)),
+        number(manner.split_sizes(file)),
+        number(manner.split_into(file, PartsMut::default())),
+    ];
+    for room in [0, file.len() + 100] {
+        let (mut out, mut scratch) = (vec![0xA5; room], vec![7; room]);
+        numbers.extend([
+            number(manner.export_into(file, &mut out)),
+            number(manner.export_older_into(file, &mut out)),
+            number(manner.join_into(file, &good, &mut out)),
+            number(manner.join_into(&good, file, &mut out)),
+            number(manner.tidy_size(file, &mut scratch)),
+            number(manner.tidy_into(file, &mut scratch, &mut out)),
+        ]);
+        assert!(out == vec![0xA5; room] && scratch == vec![7; room], "a refused call has written");
+    }
+    assert!(numbers[0] != 0 && numbers.iter().all(|number| *number == numbers[0]), "{numbers:?}");
+    numbers[0]
 }
 
 /// Numbers that follow from a seed.

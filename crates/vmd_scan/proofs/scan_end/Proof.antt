@@ -17,9 +17,10 @@ returns c =
 returns-2 : tie.Need-returns-2
 unfolding scan-end and-then
 returns-2 c =
-    let t = c .before .before .before in
-    rw (sym (t .before .before .walk-property-frames .ensures) ∙ ap walk-answer (t .next .given .1))
+    let o = c .before .before in
+    let t = o .before .before in
+    rw (sym (t .before .before .walk-property-frames .ensures) ∙ ap walk-answer (t .next .given .1), sym (o .over-in .ensures))
     (c .ended-at .ensures ∙ ap (over-if _ _) (c .before .all-sections .ensures))
 
 pub scan-end-spec : {M : Type 1} → statement M
-scan-end-spec = tie.close (tie.spec (λ c. search needs) (λ c κs. search needs) (λ c. search needs) (λ c. search needs) (λ c κs. search needs) (λ c κs. search needs) returns returns-2)
+scan-end-spec = tie.close (tie.spec (λ c. search needs) (λ c κs. search needs) (λ c. search needs) (λ c. search needs) (λ c κs. search needs) (λ c κs. search needs) (λ c κs. search needs) returns returns-2)

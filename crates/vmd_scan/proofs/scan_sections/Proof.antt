@@ -19,7 +19,7 @@ returns c =
     let m = t .before .before .before in
     rw (
       scan-steps,
-      sym (m .before .oversized-in .ensures),
+      sym (m .oversized-in .ensures),
       sym (t .before .before .scan-front .ensures) ∙ ap front-answer (t .k .given .1),
     )
 
@@ -31,7 +31,7 @@ returns-2 c =
     let m = t1 .before .before .before in
     rw (
       scan-steps,
-      sym (m .before .oversized-in .ensures),
+      sym (m .oversized-in .ensures),
       sym (t1 .before .before .scan-front .ensures) ∙ ap front-answer (t1 .front .given .1),
       sym (t2 .before .before .scan-back .ensures) ∙ ap back-answer (t2 .k2 .given .1),
     )
@@ -44,11 +44,10 @@ returns-3 c =
     let m = t1 .before .before .before in
     rw (
       scan-steps,
-      sym (m .before .oversized-in .ensures),
-      sym (m .over-in .ensures),
+      sym (m .oversized-in .ensures),
       sym (t1 .before .before .scan-front .ensures) ∙ ap front-answer (t1 .front .given .1),
       sym (t2 .before .before .scan-back .ensures) ∙ ap back-answer (t2 .back .given .1),
     ) (c .scan-end .ensures)
 
 pub scan-sections-spec : {M : Type 1} → statement M
-scan-sections-spec = tie.close (tie.spec (λ c κs. search needs) (λ c κs. search needs) (λ c κs. search needs) (λ c. search needs) (λ c. search needs) (λ c κs. search needs) (λ c. search needs) (λ c. search needs) scan-end-requires returns returns-2 returns-3)
+scan-sections-spec = tie.close (tie.spec (λ c κs. search needs) (λ c κs. search needs) (λ c. search needs) (λ c. search needs) (λ c κs. search needs) (λ c. search needs) (λ c. search needs) scan-end-requires returns returns-2 returns-3)

@@ -1,6 +1,7 @@
 //! What the checks share.
 
 use crate::lent::Output;
+use crate::manner::{Expected, Manner, MANNERS};
 use oracle::original;
 use std::fmt::Debug;
 
@@ -18,38 +19,57 @@ pub fn same<T: PartialEq + Debug>(what: &str, ours: T, theirs: T) -> Checked {
 /// What a slot holds before a call, and after a refusal.
 pub const SLOT: u64 = 0x1234_5678_9abc_def0;
 
-/// A call that writes a file, into outputs that are too short, just long enough and longer.
+/// The call that gives a file's length and the one that writes it, in both manners. The strict one is lent outputs as long as
+/// the lenient one needs, so that it is seen to leave them where it refuses.
+pub fn check_in_both<T: AsRef<[u8]>>(
+    what: &str,
+    expected: &Expected<T>,
+    output: &mut Output,
+    size: impl Fn(Manner, &mut u64) -> u32,
+    write: impl Fn(Manner, &mut [u8], &mut u64) -> u32,
+) -> Checked {
+    let expected = expected.map(T::as_ref);
+    let lengths = lengths_for(expected.lenient);
+    for manner in MANNERS {
+        let (what, expected) = (format!("{manner} {what}"), expected.in_manner(manner).copied());
+        check_size(&what, expected, |slot| size(manner, slot))?;
+        check_written(&what, expected, &lengths, output, |out, written| write(manner, out, written))?;
+    }
+    Ok(())
+}
+
+/// Outputs that are too short for these bytes, just long enough and longer.
+pub fn lengths_for(bytes: Result<&[u8], u32>) -> Vec<usize> {
+    match bytes.map(<[u8]>::len) {
+        Ok(len) => vec![0, len - 1, len, len + 1, len + 29],
+        Err(_) => vec![0, 90],
+    }
+}
+
+/// A call that writes a file, into outputs of these lengths.
 pub fn check_written(
     what: &str,
-    expected: &Result<Vec<u8>, u32>,
+    expected: Result<&[u8], u32>,
+    lengths: &[usize],
     output: &mut Output,
     call: impl Fn(&mut [u8], &mut u64) -> u32,
 ) -> Checked {
-    let lengths = match expected {
-        Ok(bytes) => vec![0, bytes.len() - 1, bytes.len(), bytes.len() + 1, bytes.len() + 29],
-        Err(_) => vec![0, 90],
-    };
-    for out_len in lengths {
+    for &out_len in lengths {
         let mut written = SLOT;
         let answer = call(output.lend(out_len), &mut written);
-        let fits = expected.as_ref().map(Vec::len).is_ok_and(|len| len <= out_len);
-        let bytes = match expected {
-            Ok(bytes) if fits => bytes.as_slice(),
-            _ => &[],
-        };
-        let refusal = expected.as_ref().err().copied().unwrap_or(if fits { 0 } else { original::OUTPUT_TOO_SHORT });
+        let given = expected.and_then(|bytes| if bytes.len() <= out_len { Ok(bytes) } else { Err(original::OUTPUT_TOO_SHORT) });
         let shown = |part: &str| format!("{what} into {out_len} bytes: {part}");
-        same(&shown("answer"), answer, refusal)?;
-        same(&shown("length written"), written, if fits { bytes.len() as u64 } else { SLOT })?;
-        output.holds(bytes).map_err(|difference| shown(&difference))?;
+        same(&shown("answer"), answer, given.err().unwrap_or(0))?;
+        same(&shown("length written"), written, given.map_or(SLOT, |bytes| bytes.len() as u64))?;
+        output.holds(given.unwrap_or(&[])).map_err(|difference| shown(&difference))?;
     }
     Ok(())
 }
 
 /// A call that gives the length of the file to be written.
-pub fn check_size(what: &str, expected: &Result<Vec<u8>, u32>, call: impl Fn(&mut u64) -> u32) -> Checked {
+pub fn check_size(what: &str, expected: Result<&[u8], u32>, call: impl Fn(&mut u64) -> u32) -> Checked {
     let mut size = SLOT;
     let answer = call(&mut size);
-    same(&format!("{what}: answer"), answer, expected.as_ref().err().copied().unwrap_or(0))?;
-    same(&format!("{what}: size"), size, expected.as_ref().map_or(SLOT, |bytes| bytes.len() as u64))
+    same(&format!("{what} size: answer"), answer, expected.err().unwrap_or(0))?;
+    same(&format!("{what} size"), size, expected.map_or(SLOT, |bytes| bytes.len() as u64))
 }

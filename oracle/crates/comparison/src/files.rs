@@ -1,11 +1,13 @@
 //! One file of either edition through every call of the reader and the exporter, converted, split into parts, added to a
-//! season, and tidied.
+//! season, and tidied; where a call has two manners, in both.
 
-use crate::check::{check_size, check_written, same, Checked, SLOT};
+use crate::check::{check_in_both, same, Checked, SLOT};
 use crate::lent::{Input, Output, Scratch};
 use crate::library::{self, Opening};
+use crate::manner::{self, Expected, FilesMet, Manner, Read, MANNERS};
 use crate::season::SeasonCheck;
 use crate::split::SplitCheck;
+use crate::tally::Answers;
 use crate::tidy::TidyCheck;
 use mmd_anim_format::vmd::{
     read_header, VmdParsedAnimation, VmdParsedBoneFrame, VmdParsedCameraFrame, VmdParsedLightFrame, VmdParsedMorphFrame,
@@ -14,6 +16,7 @@ use mmd_anim_format::vmd::{
 use oracle::files::{IK_STATE_SIZE, SIZES};
 use oracle::older::{self, is_older};
 use oracle::original::{self, MAGIC_DIFFERS, MODEL_NAME_TOO_LONG, SCRATCH_TOO_SHORT};
+use oracle::strict;
 
 const OUTSIDE: u32 = 4;
 const UNSET: u32 = 0xdead_beef;
@@ -30,6 +33,7 @@ pub struct FileCheck {
     /// Accepted files with more property frames than one place is for.
     pub several_places: u64,
     pub editions: EditionTally,
+    pub met: FilesMet,
     pub lights: LightNans,
     pub split: SplitCheck,
     pub season: SeasonCheck,
@@ -58,80 +62,83 @@ fn unset_opening() -> Opening {
 }
 
 impl FileCheck {
-    /// The original's answer, 0 or its refusal; or a difference.
-    pub fn check(&mut self, file: &[u8]) -> Result<u32, String> {
+    /// The answer in each manner; or a difference.
+    pub fn check(&mut self, file: &[u8]) -> Result<Answers, String> {
         let mut input = std::mem::take(&mut self.input);
         let checked = self.check_held(input.hold(file));
         self.input = input;
         checked
     }
 
-    fn check_held(&mut self, file: &[u8]) -> Result<u32, String> {
-        let take = original::read(file);
-        let exported = take.as_ref().map(original::export).map_err(|&refusal| refusal);
+    fn check_held(&mut self, file: &[u8]) -> Result<Answers, String> {
+        let met = strict::met(file);
+        let read = manner::read(file, met)?;
+        let opened = read.map(|read| Opened::of(file, &read.take));
         check_model_name(file)?;
-        match &take {
-            Err(refusal) => self.check_refused(file, *refusal)?,
-            Ok(take) => self.check_accepted(file, take)?,
+        self.check_opening(file, &opened)?;
+        if let (Ok(opened), Ok(read)) = (&opened.lenient, &read.lenient) {
+            self.check_records(&read.take, opened)?;
         }
-        check_size("export size", &exported, |size| library::export_size(file, size))?;
-        check_written("export", &exported, &mut self.output, |out, written| library::export_animation(file, out, written))?;
-        self.check_converted(file, &exported)?;
-        self.split.check(file, &take, &exported)?;
-        self.season.check(file, take.as_ref().ok())?;
-        self.tidy.check(file, &take, &exported)?;
+        check_in_both(
+            "export",
+            &read.map(|read| &read.exported),
+            &mut self.output,
+            |manner, size| library::export_size(manner, file, size),
+            |manner, out, written| library::export_animation(manner, file, out, written),
+        )?;
+        self.check_converted(file, &read)?;
+        self.split.check(file, &read)?;
+        self.season.check(file, read.lenient.as_ref().ok().map(|read| &read.take))?;
+        self.tidy.check(file, &read)?;
+        self.met.add(file, met);
         if is_older(file) {
             same("the original's own answer to an older file", original::read_unwidened(file).err(), Some(MAGIC_DIFFERS))?;
             self.editions.older += 1;
-            self.editions.older_accepted += take.is_ok() as u64;
+            self.editions.older_accepted += read.lenient.is_ok() as u64;
         }
-        Ok(take.err().unwrap_or(0))
+        Ok(read.answers())
     }
 
-    fn check_converted(&mut self, file: &[u8], exported: &Result<Vec<u8>, u32>) -> Checked {
-        let converted = exported.as_ref().map_err(|&refusal| refusal).and_then(|bytes| older::converted(bytes));
-        check_size("older size", &converted, |size| library::export_older_size(file, size))?;
-        check_written("older export", &converted, &mut self.output, |out, written| {
-            library::export_older_animation(file, out, written)
-        })?;
-        self.editions.converted += converted.is_ok() as u64;
-        self.editions.too_long += (converted == Err(MODEL_NAME_TOO_LONG)) as u64;
+    fn check_converted(&mut self, file: &[u8], read: &Expected<Read>) -> Checked {
+        let converted = read.and_then(|read| older::converted(&read.exported));
+        check_in_both(
+            "older export",
+            &converted,
+            &mut self.output,
+            |manner, size| library::export_older_size(manner, file, size),
+            |manner, out, written| library::export_older_animation(manner, file, out, written),
+        )?;
+        self.editions.converted += converted.lenient.is_ok() as u64;
+        self.editions.too_long += (converted.lenient == Err(MODEL_NAME_TOO_LONG)) as u64;
         Ok(())
     }
 
-    fn check_refused(&mut self, file: &[u8], refusal: u32) -> Checked {
-        for places in [0, 3] {
-            self.check_opening_refused(file, places, refusal)?;
+    /// With places enough, with more, and with one too few. Those of a strict refusal are enough for the lenient manner.
+    fn check_opening(&mut self, file: &[u8], expected: &Expected<Opened>) -> Checked {
+        let enough = expected.lenient.as_ref().map_or(0, |opened| opened.scratch.len());
+        for manner in MANNERS {
+            let expected = expected.in_manner(manner);
+            for places in [enough, enough + 3] {
+                self.check_opened(manner, file, places, expected)?;
+            }
+            if let Some(short) = enough.checked_sub(1) {
+                self.check_opened(manner, file, short, expected.and(Err(SCRATCH_TOO_SHORT)))?;
+            }
         }
+        self.several_places += (enough > 1) as u64;
         Ok(())
     }
 
-    fn check_opening_refused(&mut self, file: &[u8], places: usize, refusal: u32) -> Checked {
-        let mut opening = unset_opening();
-        let answer = library::parse_animation(file, self.scratch.lend(places), &mut opening);
-        same("opening: answer", answer, refusal)?;
-        same("opening refused: slots", opening, unset_opening())?;
-        self.scratch.holds(&[]).map_err(|difference| format!("opening refused: {difference}"))
+    fn check_opened(&mut self, manner: Manner, file: &[u8], places: usize, expected: Result<&Opened, u32>) -> Checked {
+        let mut ours = unset_opening();
+        let answer = library::parse_animation(manner, file, self.scratch.lend(places), &mut ours);
+        let shown = |part: &str| format!("{manner} opening with {places} places: {part}");
+        same(&shown("answer"), answer, expected.err().unwrap_or(0))?;
+        same(&shown("slots"), &ours, expected.map_or(&unset_opening(), |opened| &opened.opening))?;
+        self.scratch.holds(expected.map_or(&[], |opened| &opened.scratch)).map_err(|difference| shown(&difference))
     }
 
-    fn check_accepted(&mut self, file: &[u8], take: &VmdParsedAnimation) -> Checked {
-        let (opening, positions) = opening_of(file, take);
-        let scratch: Vec<u64> = positions.into_iter().step_by(PER_PLACE).collect();
-        for places in [scratch.len(), scratch.len() + 3] {
-            let mut ours = unset_opening();
-            let answer = library::parse_animation(file, self.scratch.lend(places), &mut ours);
-            same("opening: answer", answer, 0)?;
-            same("opening", &ours, &opening)?;
-            self.scratch.holds(&scratch).map_err(|difference| format!("opening: {difference}"))?;
-        }
-        if let Some(short) = scratch.len().checked_sub(1) {
-            self.check_opening_refused(file, short, SCRATCH_TOO_SHORT)?;
-        }
-        self.several_places += (scratch.len() > 1) as u64;
-        self.check_records(take, Opened { file, opening: &opening, scratch: &scratch })
-    }
-
-    fn check_records(&mut self, take: &VmdParsedAnimation, opened: Opened) -> Checked {
+    fn check_records(&mut self, take: &VmdParsedAnimation, opened: &Opened) -> Checked {
         for (i, frame) in take.bone_frames.iter().enumerate() {
             opened.check_bone(i, frame)?;
         }
@@ -236,49 +243,55 @@ fn bits<const N: usize>(values: [f32; N]) -> [u32; N] {
     values.map(f32::to_bits)
 }
 
+/// What opening has to give, and the file.
 struct Opened<'a> {
     file: &'a [u8],
-    opening: &'a Opening,
-    scratch: &'a [u64],
+    opening: Opening,
+    scratch: Vec<u64>,
 }
 
-impl Opened<'_> {
+impl<'a> Opened<'a> {
+    fn of(file: &'a [u8], take: &VmdParsedAnimation) -> Self {
+        let (opening, positions) = opening_of(file, take);
+        Opened { file, opening, scratch: positions.into_iter().step_by(PER_PLACE).collect() }
+    }
+
     fn check_part(&self, what: &str, part: [u64; 2], expected: &[u8]) -> Checked {
         same(what, bytes_at(what, self.file, part)?, expected)
     }
 
     fn check_bone(&self, i: usize, frame: &VmdParsedBoneFrame) -> Checked {
         let mut record = [UNSET; 8];
-        same("bone: answer", library::bone_frame(self.file, self.opening, i, &mut record), 0)?;
+        same("bone: answer", library::bone_frame(self.file, &self.opening, i, &mut record), 0)?;
         let ([x, y, z], [rx, ry, rz, rw]) = (bits(frame.translation), bits(frame.rotation));
         same("bone", record, [frame.frame, x, y, z, rx, ry, rz, rw])?;
-        self.check_part("bone name", library::bone_name(self.file, self.opening, i), &frame.bone_name_bytes)?;
-        self.check_part("bone interpolation", library::bone_interpolation(self.file, self.opening, i), &frame.interpolation)
+        self.check_part("bone name", library::bone_name(self.file, &self.opening, i), &frame.bone_name_bytes)?;
+        self.check_part("bone interpolation", library::bone_interpolation(self.file, &self.opening, i), &frame.interpolation)
     }
 
     fn check_morph(&self, i: usize, frame: &VmdParsedMorphFrame) -> Checked {
         let mut record = [UNSET; 2];
-        same("morph: answer", library::morph_frame(self.file, self.opening, i, &mut record), 0)?;
+        same("morph: answer", library::morph_frame(self.file, &self.opening, i, &mut record), 0)?;
         same("morph", record, [frame.frame, frame.weight.to_bits()])?;
-        self.check_part("morph name", library::morph_name(self.file, self.opening, i), &frame.morph_name_bytes)
+        self.check_part("morph name", library::morph_name(self.file, &self.opening, i), &frame.morph_name_bytes)
     }
 
     fn check_camera(&self, i: usize, frame: &VmdParsedCameraFrame) -> Checked {
         let mut record = [UNSET; 10];
-        same("camera: answer", library::camera_frame(self.file, self.opening, i, &mut record), 0)?;
+        same("camera: answer", library::camera_frame(self.file, &self.opening, i, &mut record), 0)?;
         let ([x, y, z], [rx, ry, rz]) = (bits(frame.position), bits(frame.rotation));
         let perspective = frame.perspective as u32;
         same("camera", record, [frame.frame, frame.distance.to_bits(), x, y, z, rx, ry, rz, frame.fov, perspective])?;
-        self.check_part("camera interpolation", library::camera_interpolation(self.file, self.opening, i), &frame.interpolation)
+        self.check_part("camera interpolation", library::camera_interpolation(self.file, &self.opening, i), &frame.interpolation)
     }
 
     fn check_light(&self, i: usize, frame: &VmdParsedLightFrame, nans: &mut LightNans) -> Checked {
         let mut record = [UNSET; 7];
-        same("light bits: answer", library::light_frame_bits(self.file, self.opening, i, &mut record), 0)?;
+        same("light bits: answer", library::light_frame_bits(self.file, &self.opening, i, &mut record), 0)?;
         let ([r, g, b], [x, y, z]) = (bits(frame.color), bits(frame.direction));
         same("light bits", record, [frame.frame, r, g, b, x, y, z])?;
         let (mut number, mut values) = (UNSET, [0.0; 6]);
-        same("light: answer", library::light_frame(self.file, self.opening, i, &mut number, &mut values), 0)?;
+        same("light: answer", library::light_frame(self.file, &self.opening, i, &mut number, &mut values), 0)?;
         same("light: frame", number, frame.frame)?;
         for (value, expected) in values.into_iter().zip([r, g, b, x, y, z]) {
             nans.check(value.to_bits(), expected)?;
@@ -288,7 +301,7 @@ impl Opened<'_> {
 
     fn check_self_shadow(&self, i: usize, frame: &VmdParsedSelfShadowFrame) -> Checked {
         let mut record = [UNSET; 3];
-        same("self-shadow: answer", library::self_shadow_frame(self.file, self.opening, i, &mut record), 0)?;
+        same("self-shadow: answer", library::self_shadow_frame(self.file, &self.opening, i, &mut record), 0)?;
         same("self-shadow", record, [frame.frame, frame.mode as u32, frame.distance.to_bits()])
     }
 
@@ -296,7 +309,7 @@ impl Opened<'_> {
     fn check_property(&self, i: usize, frame: &VmdParsedPropertyFrame) -> Checked {
         let (enough, short) = (&self.scratch[..=i / PER_PLACE], &self.scratch[..i / PER_PLACE]);
         let mut record = [UNSET; 3];
-        let answer = library::property_frame(self.file, self.opening, enough, i, &mut record);
+        let answer = library::property_frame(self.file, &self.opening, enough, i, &mut record);
         same("property: answer", answer, 0)?;
         same("property", record, property_record(frame))?;
         self.check_ik_states(i, frame)?;
@@ -306,17 +319,18 @@ impl Opened<'_> {
     fn check_ik_states(&self, i: usize, frame: &VmdParsedPropertyFrame) -> Checked {
         for (j, state) in frame.ik_states.iter().enumerate() {
             let mut enabled = UNSET;
-            let answer = library::ik_state(self.file, self.opening, self.scratch, i, j, &mut enabled);
+            let answer = library::ik_state(self.file, &self.opening, &self.scratch, i, j, &mut enabled);
             same("IK state: answer", answer, 0)?;
             same("IK state: enabled", enabled, state.enabled as u32)?;
-            self.check_part("IK name", library::ik_name(self.file, self.opening, self.scratch, i, j), &state.bone_name_bytes)?;
+            self.check_part("IK name", library::ik_name(self.file, &self.opening, &self.scratch, i, j), &state.bone_name_bytes)?;
         }
-        self.check_no_ik_state(self.scratch, i, frame.ik_states.len())
+        self.check_no_ik_state(&self.scratch, i, frame.ik_states.len())
     }
 
     /// From the properties' place on, by place alone; the IK states with a count of one frame and a scratch of its place.
     fn check_one_after_another(&self, frames: &[VmdParsedPropertyFrame]) -> Checked {
-        let alone = Opening { counts: [0, 0, 0, 0, 0, 1], ..unset_opening() };
+        let opening = Opening { counts: [0, 0, 0, 0, 0, 1], ..unset_opening() };
+        let mut alone = Opened { file: self.file, opening, scratch: vec![0] };
         let mut place = self.opening.places[5];
         for frame in frames {
             let (mut record, mut next) = ([UNSET; 3], SLOT);
@@ -324,7 +338,8 @@ impl Opened<'_> {
             same("property at a place: answer", answer, 0)?;
             same("property at a place", record, property_record(frame))?;
             same("the next property's place", next, place + size_of(frame))?;
-            Opened { file: self.file, opening: &alone, scratch: &[place] }.check_ik_states(0, frame)?;
+            alone.scratch[0] = place;
+            alone.check_ik_states(0, frame)?;
             check_no_property_at(&self.file[..next as usize - 1], place)?;
             place = next;
         }
@@ -334,7 +349,7 @@ impl Opened<'_> {
 
     /// Numbers at and above the counts.
     fn check_past_the_ends(&self) -> Checked {
-        let (file, opening) = (self.file, self.opening);
+        let (file, opening) = (self.file, &self.opening);
         let past = |section: usize| {
             let count = opening.counts[section] as usize;
             [count, count + 1, usize::MAX]
@@ -362,20 +377,20 @@ impl Opened<'_> {
             refused("self-shadow", |record: &mut [u32; 3]| library::self_shadow_frame(file, opening, i, record))?;
         }
         for i in past(5) {
-            self.check_no_property(self.scratch, i)?;
+            self.check_no_property(&self.scratch, i)?;
         }
         Ok(())
     }
 
     fn check_no_property(&self, scratch: &[u64], i: usize) -> Checked {
-        refused("property", |record: &mut [u32; 3]| library::property_frame(self.file, self.opening, scratch, i, record))?;
+        refused("property", |record: &mut [u32; 3]| library::property_frame(self.file, &self.opening, scratch, i, record))?;
         self.check_no_ik_state(scratch, i, 0)
     }
 
     fn check_no_ik_state(&self, scratch: &[u64], i: usize, j: usize) -> Checked {
         for j in [j, j + 1, usize::MAX] {
-            refused("IK state", |slot: &mut [u32; 1]| library::ik_state(self.file, self.opening, scratch, i, j, &mut slot[0]))?;
-            same("name of no IK state", library::ik_name(self.file, self.opening, scratch, i, j), [0, 0])?;
+            refused("IK state", |slot: &mut [u32; 1]| library::ik_state(self.file, &self.opening, scratch, i, j, &mut slot[0]))?;
+            same("name of no IK state", library::ik_name(self.file, &self.opening, scratch, i, j), [0, 0])?;
         }
         Ok(())
     }

@@ -1,9 +1,10 @@
 //! Counts at and above 4,294,967,295. Memory that is mapped and not written costs nothing, and the calls refuse before they
 //! look at the records: so the columns and files here can be as long as they say.
 
-use crate::check::{check_size, check_written, same};
+use crate::check::{check_in_both, same, Checked};
 use crate::lent::Output;
 use crate::library;
+use crate::manner::{met_in_join, Expected, MANNERS};
 use crate::parts::check_built;
 use crate::tally::Tally;
 use oracle::files::{Pieces, SIZES};
@@ -32,7 +33,7 @@ pub fn run() -> Tally {
         Some(zeros) => columns(&mut tally, zeros),
         None => println!("columns of so many records: not run, the memory could not be mapped"),
     }
-    let half = SIZES[SELF_SHADOWS] * (MOST / 2 + 1) + 74;
+    let half = SIZES[SELF_SHADOWS] * (MOST / 2 + 1) + 75;
     match (zeros(half), zeros(half)) {
         (Some(first), Some(second)) => files(&mut tally, first, second),
         _ => println!("files of so many records: not run, the memory could not be mapped"),
@@ -72,27 +73,39 @@ fn columns_of(zeros: &[u8], bones: usize, morphs: usize, frames_missing: usize) 
 
 // ---- files, against document 01: the original would need a record in memory for each
 
-/// A file of so many self-shadows, all zero.
-fn shadows(zeros: &mut [u8], count: u32) -> &[u8] {
+/// A file of so many self-shadows and so many bytes more, all zero; four more are a property count.
+fn shadows(zeros: &mut [u8], count: u32, more: usize) -> &[u8] {
     let mut pieces = Pieces::empty();
     pieces.sections[SELF_SHADOWS].count = count;
     let head = pieces.first_sections(SELF_SHADOWS + 1);
     zeros[..head.len()].copy_from_slice(&head);
-    &zeros[..head.len() + SIZES[SELF_SHADOWS] * count as usize]
+    &zeros[..head.len() + SIZES[SELF_SHADOWS] * count as usize + more]
 }
 
 fn files(tally: &mut Tally, first: &mut [u8], second: &mut [u8]) {
-    let mut output = Output::default();
     let half = (MOST / 2 + 1) as u32;
-    let first = shadows(first, half);
-    let too_many = Err(11);
-    let checked = check_size("join size", &too_many, |size| library::join_size(first, first, size)).and_then(|()| {
-        check_written("join", &too_many, &mut output, |out, written| library::join_animations(first, first, out, written))
-    });
-    tally.count("joins of two halves", checked.map(|()| 11), || format!("{half} self-shadows twice"));
-    let second = shadows(second, half - 1);
-    let mut size = 0;
-    let checked = same("join size: answer", library::join_size(first, second, &mut size), 0)
-        .and_then(|()| same("join size", size, 74 + (SIZES[SELF_SHADOWS] * MOST) as u64));
-    tally.count("joins of two halves", checked.map(|()| 0), || format!("{half} self-shadows and one fewer"));
+    for more in [0, 5] {
+        let first = shadows(first, half, more);
+        let too_many = Expected { lenient: Err::<Vec<u8>, u32>(11), strict: met_in_join(first, first) };
+        let checked = check_in_both(
+            "join",
+            &too_many,
+            &mut Output::default(),
+            |manner, size| library::join_size(manner, first, first, size),
+            |manner, out, written| library::join_animations(manner, first, first, out, written),
+        );
+        let shown = || format!("{half} self-shadows twice, each time with {more} bytes after them");
+        tally.count("joins of two halves", checked.map(|()| too_many.answers()), shown);
+    }
+    let checked = check_fitting(shadows(first, half, 0), shadows(second, half - 1, 0));
+    tally.count("joins of two halves", checked.map(|()| 0u32), || format!("{half} self-shadows and one fewer"));
+}
+
+fn check_fitting(first: &[u8], second: &[u8]) -> Checked {
+    for manner in MANNERS {
+        let mut size = 0;
+        same("join size: answer", library::join_size(manner, first, second, &mut size), 0)?;
+        same("join size", size, 74 + (SIZES[SELF_SHADOWS] * MOST) as u64)?;
+    }
+    Ok(())
 }

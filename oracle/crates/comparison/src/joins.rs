@@ -1,18 +1,34 @@
 //! Two files joined. The original does not join: what is expected is its export of the records that it read, concatenated
 //! by document 01's rule.
 
-use crate::check::{check_size, check_written, same, Checked};
+use crate::check::{check_in_both, same, Checked};
 use crate::files::{bytes_at, model_of, model_part};
 use crate::lent::Output;
 use crate::library;
+use crate::manner::{met_in_join, Expected, JoinsMet};
+use crate::tally::Answers;
 use oracle::original;
 
-pub fn check(first: &[u8], second: &[u8], output: &mut Output) -> Result<u32, String> {
-    let joined = original::join_files(first, second);
-    check_size("join size", &joined, |size| library::join_size(first, second, size))?;
-    check_written("join", &joined, output, |out, written| library::join_animations(first, second, out, written))?;
-    check_model(first, second)?;
-    Ok(joined.err().unwrap_or(0))
+#[derive(Default)]
+pub struct JoinCheck {
+    output: Output,
+    pub met: JoinsMet,
+}
+
+impl JoinCheck {
+    pub fn check(&mut self, first: &[u8], second: &[u8]) -> Result<Answers, String> {
+        let joined = Expected { lenient: original::join_files(first, second), strict: met_in_join(first, second) };
+        self.met.add(first, second);
+        check_in_both(
+            "join",
+            &joined,
+            &mut self.output,
+            |manner, size| library::join_size(manner, first, second, size),
+            |manner, out, written| library::join_animations(manner, first, second, out, written),
+        )?;
+        check_model(first, second)?;
+        Ok(joined.answers())
+    }
 }
 
 fn check_model(first: &[u8], second: &[u8]) -> Checked {

@@ -1,15 +1,17 @@
 //! The proved library behind functions on slices. A self-test has one of its results altered here.
 
-use crate::alter::{altered, Alter};
+use crate::alter::{altered, call_begins, Alter, Call};
 use crate::files::PER_PLACE;
 use crate::header;
 use crate::header::indices::{VMD_TOTAL_IK_STATES, VMD_TOTAL_LARGEST_FRAME, VMD_TOTAL_SMALLEST_FRAME};
+use crate::manner::Manner;
 use mmd_anim_format::vmd::VmdParsedMorphFrame;
-use oracle::files::{Pieces, MAGIC};
+use oracle::files::{Pieces, MAGIC, SIZES};
 use oracle::names::{self, has_character, is_lead, is_trail, BESIDE_THE_INDEX, RUNS};
 use oracle::older::{is_older, NARROWER, OLDER_MAGIC};
-use oracle::original::{self, SCRATCH_TOO_SHORT};
+use oracle::original::{self, ENDS_EARLY, SCRATCH_TOO_SHORT};
 use oracle::parts::{Columns, Parts};
+use oracle::strict::{self, Met, BYTES_OVER, EMPTIED, OVERSIZED};
 use std::borrow::Cow;
 
 /// A slice's pointer, null where it has no elements, which include/vmd.h allows.
@@ -29,6 +31,83 @@ fn pointer_mut<T>(slice: &mut [T]) -> *mut T {
     }
 }
 
+// ---- the two manners
+
+macro_rules! of_manner {
+    ($manner:expr, $strict:ident, $lenient:ident) => {
+        match $manner {
+            Manner::Strict => header::$strict,
+            Manner::Lenient => header::$lenient,
+        }
+    };
+}
+
+/// A call that reads whole takes, in this manner.
+fn read_in(manner: Manner, which: Call, files: &[&[u8]], mut call: impl FnMut(Manner) -> u32) -> u32 {
+    if altered(Alter::Nothing) {
+        return call(manner);
+    }
+    let answer = call(asked(manner, which, files));
+    if manner == Manner::Strict && turned_down(answer) && altered(Alter::WrittenFirst(which)) {
+        call(Manner::Lenient);
+    }
+    match manner {
+        Manner::Lenient => answer,
+        Manner::Strict => alter_strict(answer, files),
+    }
+}
+
+fn turned_down(answer: u32) -> bool {
+    answer >= BYTES_OVER
+}
+
+/// The manner in which an altered library would read.
+fn asked(manner: Manner, which: Call, files: &[&[u8]]) -> Manner {
+    let first_read = || matches!(files, [first, _] if strict::met(first).answer() == 0);
+    match manner {
+        Manner::Strict if altered(Alter::Lenient(which)) => Manner::Lenient,
+        Manner::Strict if altered(Alter::JoinSecondLenient) && first_read() => Manner::Lenient,
+        Manner::Strict if files.iter().any(|file| missed(file)) => Manner::Lenient,
+        Manner::Lenient if altered(Alter::Strict(which)) => Manner::Strict,
+        _ => manner,
+    }
+}
+
+/// What an altered strict reader passes over.
+fn missed(file: &[u8]) -> bool {
+    let missed = match strict::met(file) {
+        Met::Oversized { left: 0, .. } if altered(Alter::OversizedAtTheEnd) => true,
+        Met::Oversized { section, count, left } if altered(Alter::OversizedByOne) => count as usize * SIZES[section] == left + 1,
+        Met::Oversized { section, .. } => {
+            altered([Alter::CamerasEmptied, Alter::LightsEmptied, Alter::SelfShadowsEmptied][section - EMPTIED.start()])
+        }
+        Met::BytesOver { over: 1, .. } if altered(Alter::OverOneByte) => true,
+        Met::BytesOver { frames: 0, .. } => altered(Alter::OverAfterNone),
+        Met::BytesOver { .. } => altered(Alter::OverAfterFrames),
+        _ => false,
+    };
+    missed || altered(Alter::OlderLenient) && is_older(file)
+}
+
+/// What an altered strict call would answer.
+fn alter_strict(answer: u32, files: &[&[u8]]) -> u32 {
+    let met: Vec<Met> = files.iter().map(|file| strict::met(file)).collect();
+    match (answer, &met[..]) {
+        (BYTES_OVER, _) if altered(Alter::OverAccepted) => 0,
+        (BYTES_OVER, _) if altered(Alter::OverAs17) => OVERSIZED,
+        (BYTES_OVER, _) if altered(Alter::OverAs1) => ENDS_EARLY,
+        (OVERSIZED, _) if altered(Alter::OversizedAccepted) => 0,
+        (OVERSIZED, _) if altered(Alter::OversizedAs16) => BYTES_OVER,
+        (ENDS_EARLY, [.., Met::Refused { section: 5, .. }]) if altered(Alter::OverBefore1) => BYTES_OVER,
+        (ENDS_EARLY, [.., Met::Refused { section: 1, .. }]) if altered(Alter::OversizedMorphs) => OVERSIZED,
+        (0, [.., Met::End { counts: ..6 }]) if altered(Alter::MissingCountRefused) => ENDS_EARLY,
+        (1.., [_, second]) if altered(Alter::JoinSecondFirst) && second.answer() > 0 => second.answer(),
+        _ => answer,
+    }
+}
+
+// ---- opening
+
 /// The slots of an opening.
 #[derive(Clone, PartialEq, Eq, Debug)]
 pub struct Opening {
@@ -47,14 +126,17 @@ fn seen(file: &[u8]) -> Cow<'_, [u8]> {
     file
 }
 
-pub fn parse_animation(file: &[u8], scratch: &mut [u64], opening: &mut Opening) -> u32 {
+pub fn parse_animation(manner: Manner, file: &[u8], scratch: &mut [u64], opening: &mut Opening) -> u32 {
+    call_begins(manner);
     if older_magic_refused(file) {
         return original::MAGIC_DIFFERS;
     }
-    let (read, counts, places, totals) = (seen(file), &mut opening.counts, &mut opening.places, &mut opening.totals);
-    let answer = unsafe {
-        header::vmd_parse_animation(pointer(&read), read.len(), pointer_mut(scratch), scratch.len(), counts, places, totals)
-    };
+    let read = seen(file);
+    let answer = read_in(manner, Call::Opening, &[file], |manner| {
+        let call = of_manner!(manner, vmd_parse_animation, vmd_parse_animation_lenient);
+        let Opening { counts, places, totals } = &mut *opening;
+        unsafe { call(pointer(&read), read.len(), pointer_mut(scratch), scratch.len(), counts, places, totals) }
+    });
     alter_older_opening(file, answer, scratch, opening);
     let answer = alter_opening(answer, scratch, opening);
     alter_places(file, answer, scratch, opening)
@@ -120,6 +202,9 @@ fn places_of(opening: &Opening) -> usize {
 /// How many places are asked for, and what they hold.
 fn alter_places(file: &[u8], answer: u32, scratch: &mut [u64], opening: &Opening) -> u32 {
     let frames = || original::read(file).map_or(0, |take| take.property_frames.len());
+    if altered(Alter::ScratchBeforeManner) && turned_down(answer) && scratch.len() * PER_PLACE < frames() {
+        return SCRATCH_TOO_SHORT;
+    }
     if altered(Alter::ScratchRoundedDown) && answer == SCRATCH_TOO_SHORT && scratch.len() == frames() / PER_PLACE {
         return 0;
     }
@@ -370,8 +455,12 @@ pub fn model_name(file: &[u8]) -> [u64; 2] {
 
 // ---- export
 
-pub fn export_size(file: &[u8], size: &mut u64) -> u32 {
-    let answer = unsafe { header::vmd_export_size(pointer(file), file.len(), size) };
+pub fn export_size(manner: Manner, file: &[u8], size: &mut u64) -> u32 {
+    call_begins(manner);
+    let answer = read_in(manner, Call::ExportSize, &[file], |manner| {
+        let call = of_manner!(manner, vmd_export_size, vmd_export_size_lenient);
+        unsafe { call(pointer(file), file.len(), size) }
+    });
     if altered(Alter::ExportSize) && answer == 0 {
         *size += 1;
     }
@@ -381,8 +470,16 @@ pub fn export_size(file: &[u8], size: &mut u64) -> u32 {
     answer
 }
 
-pub fn export_animation(file: &[u8], out: &mut [u8], written: &mut u64) -> u32 {
-    let answer = unsafe { header::vmd_export_animation(pointer(file), file.len(), pointer_mut(out), out.len(), written) };
+pub fn export_animation(manner: Manner, file: &[u8], out: &mut [u8], written: &mut u64) -> u32 {
+    call_begins(manner);
+    let answer = read_in(manner, Call::Export, &[file], |manner| {
+        let call = of_manner!(manner, vmd_export_animation, vmd_export_animation_lenient);
+        unsafe { call(pointer(file), file.len(), pointer_mut(out), out.len(), written) }
+    });
+    let short = || original::export_file(file).is_ok_and(|bytes| out.len() < bytes.len());
+    if altered(Alter::OutputBeforeManner) && turned_down(answer) && short() {
+        return original::OUTPUT_TOO_SHORT;
+    }
     alter_export(answer, out, written);
     if altered(Alter::OlderExportMagic) && answer == 0 && is_older(file) {
         out[..OLDER_MAGIC.len()].copy_from_slice(OLDER_MAGIC);
@@ -412,8 +509,12 @@ fn alter_export(answer: u32, out: &mut [u8], written: &mut u64) {
 
 // ---- conversion to the older edition
 
-pub fn export_older_size(file: &[u8], size: &mut u64) -> u32 {
-    let answer = unsafe { header::vmd_export_older_size(pointer(file), file.len(), size) };
+pub fn export_older_size(manner: Manner, file: &[u8], size: &mut u64) -> u32 {
+    call_begins(manner);
+    let answer = read_in(manner, Call::ConvertSize, &[file], |manner| {
+        let call = of_manner!(manner, vmd_export_older_size, vmd_export_older_size_lenient);
+        unsafe { call(pointer(file), file.len(), size) }
+    });
     if altered(Alter::ConvertSize) && answer == 0 {
         *size += NARROWER as u64;
     }
@@ -423,13 +524,20 @@ pub fn export_older_size(file: &[u8], size: &mut u64) -> u32 {
     answer
 }
 
-pub fn export_older_animation(file: &[u8], out: &mut [u8], written: &mut u64) -> u32 {
+pub fn export_older_animation(manner: Manner, file: &[u8], out: &mut [u8], written: &mut u64) -> u32 {
+    call_begins(manner);
     if let Some(refusal) = conversion_refused(file, out.len()) {
         return refusal;
     }
-    let answer = unsafe { header::vmd_export_older_animation(pointer(file), file.len(), pointer_mut(out), out.len(), written) };
+    let answer = read_in(manner, Call::Convert, &[file], |manner| {
+        let call = of_manner!(manner, vmd_export_older_animation, vmd_export_older_animation_lenient);
+        unsafe { call(pointer(file), file.len(), pointer_mut(out), out.len(), written) }
+    });
     if altered(Alter::ConvertElevenAccepted) && answer == original::MODEL_NAME_TOO_LONG && model_name(file)[1] == 11 {
         return 0;
+    }
+    if altered(Alter::LongNameBeforeManner) && turned_down(answer) && model_name(file)[1] > 10 {
+        return original::MODEL_NAME_TOO_LONG;
     }
     alter_conversion(file, answer, out, written);
     answer
@@ -478,18 +586,34 @@ fn alter_conversion(file: &[u8], answer: u32, out: &mut [u8], written: &mut u64)
 
 // ---- joining
 
-pub fn join_size(first: &[u8], second: &[u8], size: &mut u64) -> u32 {
-    unsafe { header::vmd_join_size(pointer(first), first.len(), pointer(second), second.len(), size) }
+pub fn join_size(manner: Manner, first: &[u8], second: &[u8], size: &mut u64) -> u32 {
+    call_begins(manner);
+    let answer = read_in(manner, Call::JoinSize, &[first, second], |manner| {
+        let call = of_manner!(manner, vmd_join_size, vmd_join_size_lenient);
+        unsafe { call(pointer(first), first.len(), pointer(second), second.len(), size) }
+    });
+    if altered(Alter::JoinSize) && answer == 0 {
+        *size += 1;
+    }
+    answer
 }
 
-pub fn join_animations(first: &[u8], second: &[u8], out: &mut [u8], written: &mut u64) -> u32 {
+pub fn join_animations(manner: Manner, first: &[u8], second: &[u8], out: &mut [u8], written: &mut u64) -> u32 {
+    call_begins(manner);
     let empty;
     let (a, mut b) = if altered(Alter::JoinTurned) { (second, first) } else { (first, second) };
     if altered(Alter::JoinOlderDropped) && is_older(b) && original::read(b).is_ok() {
         empty = Pieces::empty().file();
         b = &empty;
     }
-    unsafe { header::vmd_join_animations(pointer(a), a.len(), pointer(b), b.len(), pointer_mut(out), out.len(), written) }
+    let answer = read_in(manner, Call::Join, &[first, second], |manner| {
+        let call = of_manner!(manner, vmd_join_animations, vmd_join_animations_lenient);
+        unsafe { call(pointer(a), a.len(), pointer(b), b.len(), pointer_mut(out), out.len(), written) }
+    });
+    if altered(Alter::JoinByte) && answer == 0 {
+        out[*written as usize - 1] ^= 1;
+    }
+    answer
 }
 
 /// Which file the joined model name is in, where it begins there, and its length.
@@ -513,11 +637,13 @@ pub struct Figures {
     pub dropped: [u32; 6],
 }
 
-pub fn tidy_size(file: &[u8], scratch: &mut [u64], size: &mut u64, figures: &mut Figures) -> u32 {
-    let answer = unsafe {
-        let (kept, dropped) = (&mut figures.kept, &mut figures.dropped);
-        header::vmd_tidy_size(pointer(file), file.len(), pointer_mut(scratch), scratch.len(), size, kept, dropped)
-    };
+pub fn tidy_size(manner: Manner, file: &[u8], scratch: &mut [u64], size: &mut u64, figures: &mut Figures) -> u32 {
+    call_begins(manner);
+    let answer = read_in(manner, Call::TidySize, &[file], |manner| {
+        let call = of_manner!(manner, vmd_tidy_size, vmd_tidy_size_lenient);
+        let Figures { kept, dropped } = &mut *figures;
+        unsafe { call(pointer(file), file.len(), pointer_mut(scratch), scratch.len(), size, kept, dropped) }
+    });
     if altered(Alter::TidySize) && answer == 0 {
         *size = original::export_file(file).map_or(0, |bytes| bytes.len() as u64);
     }
@@ -525,25 +651,27 @@ pub fn tidy_size(file: &[u8], scratch: &mut [u64], size: &mut u64, figures: &mut
     answer
 }
 
-pub fn tidy_animation(file: &[u8], scratch: &mut [u64], out: &mut [u8], written: &mut u64, figures: &mut Figures) -> u32 {
+pub fn tidy_animation(
+    manner: Manner,
+    file: &[u8],
+    scratch: &mut [u64],
+    out: &mut [u8],
+    written: &mut u64,
+    figures: &mut Figures,
+) -> u32 {
+    call_begins(manner);
     if let Some(refusal) = tidying_refused(file, scratch.len(), out.len()) {
         return refusal;
     }
-    let (places, out_len) = (scratch.len(), out.len());
-    let answer = unsafe {
-        let (kept, dropped) = (&mut figures.kept, &mut figures.dropped);
-        header::vmd_tidy_animation(
-            pointer(file),
-            file.len(),
-            pointer_mut(scratch),
-            places,
-            pointer_mut(out),
-            out_len,
-            written,
-            kept,
-            dropped,
-        )
-    };
+    let answer = read_in(manner, Call::Tidy, &[file], |manner| {
+        let call = of_manner!(manner, vmd_tidy_animation, vmd_tidy_animation_lenient);
+        let (places, out_len) = (scratch.len(), out.len());
+        let (scratch, out, Figures { kept, dropped }) = (pointer_mut(scratch), pointer_mut(out), &mut *figures);
+        unsafe { call(pointer(file), file.len(), scratch, places, out, out_len, written, kept, dropped) }
+    });
+    if altered(Alter::TidyScratchBeforeManner) && turned_down(answer) && scratch.len() < largest_section(file) {
+        return SCRATCH_TOO_SHORT;
+    }
     if answer == 0 {
         alter_tidied(file, out, written);
     } else if altered(Alter::TidyInRefusal) {
@@ -551,6 +679,10 @@ pub fn tidy_animation(file: &[u8], scratch: &mut [u64], out: &mut [u8], written:
     }
     alter_tidied_scratch(answer, scratch, figures);
     answer
+}
+
+fn largest_section(file: &[u8]) -> usize {
+    original::read(file).map_or(0, |take| original::counts_of(&take).into_iter().max().unwrap())
 }
 
 /// A refusal that the library does not give, or not first; nothing is written.
@@ -789,8 +921,12 @@ pub struct Lent<'a> {
 }
 
 /// bone names, their bytes, morph names, their bytes
-pub fn split_sizes(file: &[u8], sizes: &mut [u64; 4]) -> u32 {
-    let answer = unsafe { header::vmd_split_sizes(pointer(file), file.len(), sizes) };
+pub fn split_sizes(manner: Manner, file: &[u8], sizes: &mut [u64; 4]) -> u32 {
+    call_begins(manner);
+    let answer = read_in(manner, Call::SplitSizes, &[file], |manner| {
+        let call = of_manner!(manner, vmd_split_sizes, vmd_split_sizes_lenient);
+        unsafe { call(pointer(file), file.len(), sizes) }
+    });
     if altered(Alter::SplitSizes) && answer == 0 {
         sizes[3] += 1;
     }
@@ -800,10 +936,21 @@ pub fn split_sizes(file: &[u8], sizes: &mut [u64; 4]) -> u32 {
     answer
 }
 
+pub fn split_animation_into_parts(manner: Manner, file: &[u8], mut p: Lent, sizes: &mut [u64; 4]) -> u32 {
+    call_begins(manner);
+    let answer = read_in(manner, Call::Split, &[file], |manner| split_in(manner, file, &mut p, sizes));
+    let short = || original::read(file).is_ok_and(|take| p.morph_frames.len() < take.morph_frames.len());
+    if altered(Alter::PartsBeforeManner) && turned_down(answer) && short() {
+        return original::PARTS_DO_NOT_FIT;
+    }
+    alter_split(answer, &mut p, sizes)
+}
+
 #[rustfmt::skip]
-pub fn split_animation_into_parts(file: &[u8], mut p: Lent, sizes: &mut [u64; 4]) -> u32 {
-    let answer = unsafe {
-        header::vmd_split_animation_into_parts(
+fn split_in(manner: Manner, file: &[u8], p: &mut Lent, sizes: &mut [u64; 4]) -> u32 {
+    let call = of_manner!(manner, vmd_split_animation_into_parts, vmd_split_animation_into_parts_lenient);
+    unsafe {
+        call(
             pointer(file), file.len(),
             pointer_mut(p.bone_name_bytes), p.bone_name_bytes.len(),
             pointer_mut(p.bone_name_ends), p.bone_name_ends.len(),
@@ -823,8 +970,7 @@ pub fn split_animation_into_parts(file: &[u8], mut p: Lent, sizes: &mut [u64; 4]
             pointer_mut(p.morph_weights), p.morph_weights.len(),
             sizes,
         )
-    };
-    alter_split(answer, &mut p, sizes)
+    }
 }
 
 fn alter_split(answer: u32, p: &mut Lent, sizes: &[u64; 4]) -> u32 {
@@ -881,7 +1027,8 @@ pub fn season_none(season: &mut Season) {
 
 pub fn season_add(file: &[u8], season: &mut Season) {
     let before = season.clone();
-    if altered(Alter::SeasonOlderRefused) && is_older(file) {
+    let strictly = || altered(Alter::SeasonStrict) && turned_down(strict::met(file).answer());
+    if altered(Alter::SeasonOlderRefused) && is_older(file) || strictly() {
         season.figures[10] = before.figures[10].saturating_add(1);
         return;
     }

@@ -2,7 +2,8 @@
 //!
 //!     compare N SEED          N files, N part sets, N / 5 older files, N / 10 files whose names repeat, joins, joins with
 //!                             older files and names, N / 5 takes to tidy, N / 20 files of up to 70 property frames and
-//!                             N / 100 older ones, beside the fixed inputs
+//!                             N / 100 older ones, as many of each made for the strict manner to turn down and N / 20 joins
+//!                             of them, beside the fixed inputs
 //!     compare self-test       alters one result after another: each has to be reported
 //!
 //! The working directory is the repository, whose table of request h) is compared too.
@@ -15,6 +16,7 @@ mod huge;
 mod joins;
 mod lent;
 mod library;
+mod manner;
 mod name_test;
 mod parts;
 mod runs;
@@ -23,7 +25,7 @@ mod split;
 mod tally;
 mod tidy;
 
-use alter::{alter, Alter, ALTERATIONS};
+use alter::{alter, alterations, Alter};
 use std::path::Path;
 use std::process::ExitCode;
 use std::time::Instant;
@@ -66,10 +68,15 @@ fn compare(cases: u64, seed: u64) -> ExitCode {
     older.print();
     print_older(&older_check.editions);
     print_files(&older_check);
-    let joins = timed("joins", || runs::joins(cases / 10, seed));
+    let (joins, join_check) = timed("joins", || runs::joins(cases / 10, seed));
     joins.print();
-    let older_joins = timed("joins with older files", || runs::older_joins(cases / 10, seed));
+    join_check.met.print();
+    let (older_joins, join_check) = timed("joins with older files", || runs::older_joins(cases / 10, seed));
     older_joins.print();
+    join_check.met.print();
+    let (strict_joins, join_check) = timed("joins to turn down", || runs::turned_down_joins(cases / 20, seed));
+    strict_joins.print();
+    join_check.met.print();
     let (parts, parts_check) = timed("parts", || runs::parts(cases, seed));
     parts.print();
     print_marked(&parts_check.marked);
@@ -77,8 +84,9 @@ fn compare(cases: u64, seed: u64) -> ExitCode {
     huge.print();
     let (tidying, tidy_check) = timed("tidying", || runs::tidying(cases / 5, seed));
     tidying.print();
+    tidy_check.met.print();
     print_tidied(&tidy_check.tally);
-    let tallies = [&names, &triples, &files, &older, &joins, &older_joins, &parts, &huge, &tidying];
+    let tallies = [&names, &triples, &files, &older, &joins, &older_joins, &strict_joins, &parts, &huge, &tidying];
     let cases: u64 = tallies.iter().map(|tally| tally.cases()).sum();
     let differences: usize = tallies.iter().map(|tally| tally.differences.len()).sum::<usize>() + index.differences.len();
     println!("{cases} cases, {} of them older files, {differences} differences", older_check.editions.older);
@@ -104,6 +112,7 @@ fn print_names(tallies: &runs::NameTallies) {
 }
 
 fn print_files(check: &files::FileCheck) {
+    check.met.print();
     print_lights(check);
     println!("  converted to the older edition: {}, refused with 15: {}", check.editions.converted, check.editions.too_long);
     print_splits(&check.split);
@@ -165,16 +174,21 @@ fn print_marked(tally: &parts::MarkedTally) {
 
 const SELF_TEST_CASES: u64 = 3000;
 
-fn tallies() -> [Tally; 7] {
-    [
-        runs::names(SELF_TEST_CASES, 1).0,
-        runs::files(SELF_TEST_CASES, 1).0,
-        runs::older_files(SELF_TEST_CASES, 1).0,
-        runs::joins(SELF_TEST_CASES, 1),
-        runs::older_joins(SELF_TEST_CASES, 1),
-        runs::parts(SELF_TEST_CASES, 1).0,
-        runs::tidying(SELF_TEST_CASES, 1).0,
-    ]
+/// The short runs first, of them those that report the most.
+const RUNS: [fn() -> Tally; 8] = [
+    || runs::joins(SELF_TEST_CASES, 1).0,
+    || runs::older_joins(SELF_TEST_CASES, 1).0,
+    || runs::turned_down_joins(SELF_TEST_CASES, 1).0,
+    || runs::older_files(SELF_TEST_CASES, 1).0,
+    || runs::names(SELF_TEST_CASES, 1).0,
+    || runs::parts(SELF_TEST_CASES, 1).0,
+    || runs::tidying(SELF_TEST_CASES, 1).0,
+    || runs::files(SELF_TEST_CASES, 1).0,
+];
+
+/// The differences of the first run that has some.
+fn reported() -> Vec<String> {
+    RUNS.into_iter().map(|run| run().differences).find(|differences| !differences.is_empty()).unwrap_or_default()
 }
 
 fn self_test() -> ExitCode {
@@ -184,17 +198,17 @@ fn self_test() -> ExitCode {
         println!("the index, {what}: {}", if *reported { "reported" } else { "NOT REPORTED" });
         unreported += !reported as usize;
     }
-    for what in ALTERATIONS {
-        alter(what);
-        let tallies = tallies();
-        let differences: Vec<&String> = tallies.iter().flat_map(|tally| &tally.differences).collect();
+    for (what, only_in) in alterations() {
+        alter(what, only_in);
+        let differences = reported();
         let first = differences.first().and_then(|text| text.lines().next()).unwrap_or("");
-        println!("{what:?}: {} differences; {first}", differences.len());
+        let confined = only_in.map(|manner| format!(" in the {manner} manner alone")).unwrap_or_default();
+        println!("{what:?}{confined}: {} differences; {first}", differences.len());
         unreported += differences.is_empty() as usize;
     }
-    alter(Alter::Nothing);
-    let unaltered: usize = tallies().iter().map(|tally| tally.differences.len()).sum();
-    let alterations = ALTERATIONS.len() + of_index.len();
+    alter(Alter::Nothing, None);
+    let unaltered = reported().len();
+    let alterations = alterations().count() + of_index.len();
     println!("{alterations} alterations, {unreported} not reported; {unaltered} differences without one");
     if unreported + unaltered == 0 {
         ExitCode::SUCCESS

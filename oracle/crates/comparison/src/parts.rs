@@ -1,6 +1,6 @@
 //! One part set through the builder.
 
-use crate::check::{check_size, check_written, Checked};
+use crate::check::{check_size, check_written, lengths_for, Checked};
 use crate::lent::Output;
 use crate::library;
 use oracle::names::{like_inside, mark_of};
@@ -40,8 +40,11 @@ impl PartsCheck {
 }
 
 pub fn check_built(parts: &Parts, columns: Columns, expected: &Result<Vec<u8>, u32>, output: &mut Output) -> Checked {
-    check_size("build size", expected, |size| library::build_size(parts, columns, size))?;
-    check_written("build", expected, output, |out, written| library::build_animation_from_parts(parts, columns, out, written))
+    let expected = expected.as_deref().map_err(|&refusal| refusal);
+    check_size("build", expected, |size| library::build_size(parts, columns, size))?;
+    check_written("build", expected, &lengths_for(expected), output, |out, written| {
+        library::build_animation_from_parts(parts, columns, out, written)
+    })
 }
 
 /// The first name that starts with a byte order mark, and the mark.

@@ -1,8 +1,7 @@
 //! The runs: fixed inputs first, then N random ones from a seed.
 
 use crate::files::FileCheck;
-use crate::joins;
-use crate::lent::Output;
+use crate::joins::JoinCheck;
 use crate::name_test::NameTally;
 use crate::parts::PartsCheck;
 use crate::tally::Tally;
@@ -11,11 +10,12 @@ use oracle::crowded;
 use oracle::files::{self, file_kind, file_of, FileKind, FILE_KINDS};
 use oracle::named::{self, FEW_NAMES};
 use oracle::names::{self, is_lead, pair_of, BYTE_ORDER_MARKS, POINTERS};
-use oracle::older::{self, narrowed};
+use oracle::older::{self, narrowed, of_either_edition};
 use oracle::part_sets::{self, set_kind, set_of, SetKind, FAULTS, PLACES, SET_KINDS};
 use oracle::parts::Parts;
 use oracle::properties::{self, UP_TO_70};
 use oracle::random::Random;
+use oracle::turned_down::{self, turned_down};
 
 /// Random inputs of each run come from streams of their own.
 const FILES: u64 = 1 << 60;
@@ -29,6 +29,9 @@ const OLDER_JOINS: u64 = 8 << 60;
 const PROPERTIES: u64 = 9 << 60;
 const OLDER_PROPERTIES: u64 = 10 << 60;
 const CROWDED: u64 = 11 << 60;
+const TURNED_DOWN: u64 = 12 << 60;
+const OLDER_TURNED_DOWN: u64 = 13 << 60;
+const TURNED_DOWN_JOINS: u64 = 14 << 60;
 
 fn hex(bytes: &[u8]) -> String {
     bytes.iter().map(|byte| format!("{byte:02x}")).collect()
@@ -42,6 +45,7 @@ const EVERY_CHANGE: &str = "every change of one byte of a take";
 const LARGE_COUNTS: &str = "counts that do not fit";
 const MANY_NAMES: &str = "thousands of names";
 const FRAME_NUMBERS: &str = "0 to 70 property frames each, and thousands";
+const OVER_OR_OVERSIZED: &str = "bytes over and oversized counts, every cut";
 
 /// A file in a report; a long one by its length alone.
 fn shown_file(file: &[u8]) -> String {
@@ -53,8 +57,9 @@ fn shown_file(file: &[u8]) -> String {
 }
 
 pub fn files(cases: u64, seed: u64) -> (Tally, FileCheck) {
-    let fixed = [DOCUMENT_01, EVERY_PREFIX, EVERY_CHANGE, LARGE_COUNTS, MANY_NAMES, FRAME_NUMBERS];
-    let labels: Vec<&str> = fixed.into_iter().chain(FILE_KINDS.map(FileKind::label)).chain([FEW_NAMES, UP_TO_70]).collect();
+    let fixed = [DOCUMENT_01, EVERY_PREFIX, EVERY_CHANGE, LARGE_COUNTS, MANY_NAMES, FRAME_NUMBERS, OVER_OR_OVERSIZED];
+    let drawn = FILE_KINDS.map(FileKind::label).into_iter().chain([FEW_NAMES, UP_TO_70]).chain(turned_down::KINDS);
+    let labels: Vec<&str> = fixed.into_iter().chain(drawn).collect();
     let title = "Files: opening, records, names, export, parts, season figures, tidying";
     let (mut tally, mut check) = (Tally::new(title, &labels), FileCheck::default());
     for (label, file) in fixed_files(seed) {
@@ -74,6 +79,10 @@ pub fn files(cases: u64, seed: u64) -> (Tally, FileCheck) {
         let file = properties::up_to_70(&mut Random::for_case(seed, PROPERTIES + case));
         tally.count(UP_TO_70, check.check(&file), || format!("random properties {case}: {}", shown_file(&file)));
     }
+    for case in 0..cases / 20 {
+        let (label, file) = turned_down(&mut Random::for_case(seed, TURNED_DOWN + case));
+        tally.count(label, check.check(&file), || format!("random file {case} to turn down: {}", hex(&file)));
+    }
     (tally, check)
 }
 
@@ -88,6 +97,7 @@ fn fixed_files(seed: u64) -> impl Iterator<Item = (&'static str, Vec<u8>)> {
         .chain(labelled(LARGE_COUNTS, files::large_counts()))
         .chain(labelled(MANY_NAMES, named::many_names(&mut random)))
         .chain(labelled(FRAME_NUMBERS, properties::every_number(&mut random)))
+        .chain(labelled(OVER_OR_OVERSIZED, turned_down::fixed(&mut Random::for_case(seed, FIXED + 4))))
 }
 
 // ---- older files
@@ -101,9 +111,19 @@ const MIXED_MAGICS: &str = "mixtures of both magics";
 const OLDER_HEAD: usize = 44;
 
 pub fn older_files(cases: u64, seed: u64) -> (Tally, FileCheck) {
-    let fixed = [BARE_LENGTHS, DOCUMENT_01, EVERY_OLDER_PREFIX, EVERY_HEADER_CHANGE, MIXED_MAGICS, LARGE_COUNTS, FRAME_NUMBERS];
-    let drawn = [older::HEADER_CUT, older::HEADER_OTHER, FEW_NAMES, UP_TO_70];
-    let labels: Vec<&str> = fixed.into_iter().chain(FILE_KINDS.map(FileKind::label)).chain(drawn).collect();
+    let fixed = [
+        BARE_LENGTHS,
+        DOCUMENT_01,
+        EVERY_OLDER_PREFIX,
+        EVERY_HEADER_CHANGE,
+        MIXED_MAGICS,
+        LARGE_COUNTS,
+        FRAME_NUMBERS,
+        OVER_OR_OVERSIZED,
+    ];
+    let of_header = [older::HEADER_CUT, older::HEADER_OTHER, FEW_NAMES, UP_TO_70];
+    let drawn = FILE_KINDS.map(FileKind::label).into_iter().chain(of_header).chain(turned_down::KINDS);
+    let labels: Vec<&str> = fixed.into_iter().chain(drawn).collect();
     let title = "Older files, widened for the original: opening, records, names, export, parts, season figures, tidying";
     let (mut tally, mut check) = (Tally::new(title, &labels), FileCheck::default());
     for (label, file) in fixed_older_files(seed) {
@@ -116,6 +136,11 @@ pub fn older_files(cases: u64, seed: u64) -> (Tally, FileCheck) {
     for case in 0..cases / 20 {
         let file = narrowed(&properties::up_to_70(&mut Random::for_case(seed, OLDER_PROPERTIES + case)));
         tally.count(UP_TO_70, check.check(&file), || format!("random older properties {case}: {}", shown_file(&file)));
+    }
+    for case in 0..cases / 20 {
+        let (label, file) = turned_down(&mut Random::for_case(seed, OLDER_TURNED_DOWN + case));
+        let file = narrowed(&file);
+        tally.count(label, check.check(&file), || format!("random older file {case} to turn down: {}", hex(&file)));
     }
     (tally, check)
 }
@@ -134,6 +159,7 @@ fn fixed_older_files(seed: u64) -> impl Iterator<Item = (&'static str, Vec<u8>)>
         .chain(labelled(MIXED_MAGICS, older::mixed_magics(&small)))
         .chain(labelled(LARGE_COUNTS, narrow(files::large_counts())))
         .chain(labelled(FRAME_NUMBERS, narrow(properties::every_number(&mut random))))
+        .chain(labelled(OVER_OR_OVERSIZED, narrow(turned_down::fixed(&mut Random::for_case(seed, FIXED + 5)))))
 }
 
 // ---- joins
@@ -144,22 +170,23 @@ const WITH_ITSELF: &str = "a take with itself";
 const WITH_EMPTY: &str = "a take with the empty take";
 const ANY_TWO: &str = "any two files";
 
-pub fn joins(cases: u64, seed: u64) -> Tally {
+pub fn joins(cases: u64, seed: u64) -> (Tally, JoinCheck) {
     let labels = [EACH_WITH_EACH, TWO_WHOLE, WITH_ITSELF, WITH_EMPTY, ANY_TWO];
     let title = "Joins: expected from the original's export of the concatenated records";
-    let (mut tally, mut output) = (Tally::new(title, &labels), Output::default());
-    let fixed = files::takes_of_document_01();
-    for (first, second) in fixed.iter().flat_map(|first| fixed.iter().map(move |second| (first, second))) {
-        tally.count(EACH_WITH_EACH, joins::check(first, second, &mut output), || format!("{} and {}", hex(first), hex(second)));
+    let (mut tally, mut check) = (Tally::new(title, &labels), JoinCheck::default());
+    for (first, second) in each_with_each(&files::takes_of_document_01()) {
+        tally.count(EACH_WITH_EACH, check.check(first, second), || format!("{} and {}", hex(first), hex(second)));
     }
     for case in 0..cases {
         let mut random = Random::for_case(seed, JOINS + case);
         let (label, first, second) = pair(&mut random);
-        tally.count(label, joins::check(&first, &second, &mut output), || {
-            format!("random join {case}: {} and {}", hex(&first), hex(&second))
-        });
+        tally.count(label, check.check(&first, &second), || format!("random join {case}: {} and {}", hex(&first), hex(&second)));
     }
-    tally
+    (tally, check)
+}
+
+fn each_with_each(files: &[Vec<u8>]) -> impl Iterator<Item = (&Vec<u8>, &Vec<u8>)> {
+    files.iter().flat_map(move |first| files.iter().map(move |second| (first, second)))
 }
 
 /// Which of the two is older.
@@ -169,19 +196,18 @@ const MIXTURES: [(&str, [bool; 2]); 3] = [
     ("two older files", [true, true]),
 ];
 
-pub fn older_joins(cases: u64, seed: u64) -> Tally {
+pub fn older_joins(cases: u64, seed: u64) -> (Tally, JoinCheck) {
     let title = "Joins with older files, widened for the original";
-    let (mut tally, mut output) = (Tally::new(title, &MIXTURES.map(|(label, _)| label)), Output::default());
+    let (mut tally, mut check) = (Tally::new(title, &MIXTURES.map(|(label, _)| label)), JoinCheck::default());
     let mut count = |(label, older): (&str, [bool; 2]), first: &[u8], second: &[u8], case: &str| {
         let edition = |older: bool, file: &[u8]| if older { narrowed(file) } else { file.to_vec() };
         let (first, second) = (edition(older[0], first), edition(older[1], second));
-        let checked = joins::check(&first, &second, &mut output);
-        tally.count(label, checked, || format!("{case}{} and {}", hex(&first), hex(&second)));
+        tally.count(label, check.check(&first, &second), || format!("{case}{} and {}", hex(&first), hex(&second)));
     };
     let mut fixed = files::takes_of_document_01();
     fixed.push(files::Pieces::empty().header[..35].to_vec()); // a header that is cut, in both editions
     for mixture in MIXTURES {
-        for (first, second) in fixed.iter().flat_map(|first| fixed.iter().map(move |second| (first, second))) {
+        for (first, second) in each_with_each(&fixed) {
             count(mixture, first, second, "");
         }
     }
@@ -190,7 +216,49 @@ pub fn older_joins(cases: u64, seed: u64) -> Tally {
         let (_, first, second) = pair(&mut random);
         count(random.pick(&MIXTURES), &first, &second, &format!("random join {case} with an older file: "));
     }
-    tally
+    (tally, check)
+}
+
+type Draw = fn(&mut Random) -> Vec<u8>;
+
+/// What the two files are drawn from.
+const TURNED_DOWN_PAIRS: [(&str, [Draw; 2]); 5] = [
+    ("one to turn down, and a whole take", [to_turn_down, whole]),
+    ("a whole take, and one to turn down", [whole, to_turn_down]),
+    ("two to turn down", [to_turn_down, to_turn_down]),
+    ("one to turn down, and one that is cut", [to_turn_down, cut]),
+    ("one that is cut, and one to turn down", [cut, to_turn_down]),
+];
+
+fn to_turn_down(random: &mut Random) -> Vec<u8> {
+    turned_down(random).1
+}
+
+fn whole(random: &mut Random) -> Vec<u8> {
+    file_of(FileKind::Whole, random)
+}
+
+fn cut(random: &mut Random) -> Vec<u8> {
+    file_of(FileKind::Cut, random)
+}
+
+/// Of either edition each.
+pub fn turned_down_joins(cases: u64, seed: u64) -> (Tally, JoinCheck) {
+    const EACH: &str = "a small file of each answer, each with each";
+    let labels: Vec<&str> = [EACH].into_iter().chain(TURNED_DOWN_PAIRS.map(|(label, _)| label)).collect();
+    let title = "Joins of files that the strict manner turns down, of both editions";
+    let (mut tally, mut check) = (Tally::new(title, &labels), JoinCheck::default());
+    for (first, second) in each_with_each(&turned_down::each_answer()) {
+        tally.count(EACH, check.check(first, second), || format!("{} and {}", hex(first), hex(second)));
+    }
+    for case in 0..cases {
+        let mut random = Random::for_case(seed, TURNED_DOWN_JOINS + case);
+        let (label, draws) = random.pick(&TURNED_DOWN_PAIRS);
+        let [first, second] = draws.map(|draw| of_either_edition(draw(&mut random), &mut random));
+        let shown = || format!("random join {case} to turn down: {} and {}", hex(&first), hex(&second));
+        tally.count(label, check.check(&first, &second), shown);
+    }
+    (tally, check)
 }
 
 fn pair(random: &mut Random) -> (&'static str, Vec<u8>, Vec<u8>) {

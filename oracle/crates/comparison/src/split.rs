@@ -4,8 +4,9 @@
 use crate::check::{same, Checked, SLOT};
 use crate::lent::Output;
 use crate::library::{self, Lent};
+use crate::manner::{Expected, Manner, Read, MANNERS};
 use crate::parts::marked_name;
-use oracle::original::{self, VmdParsedAnimation, NOT_GOOD, PARTS_DO_NOT_FIT};
+use oracle::original::{self, NOT_GOOD, PARTS_DO_NOT_FIT};
 use oracle::parts::Parts;
 
 /// A column as the call writes it: floats are their bits.
@@ -98,35 +99,32 @@ pub struct SplitCheck {
 }
 
 impl SplitCheck {
-    pub fn check(&mut self, file: &[u8], take: &Result<VmdParsedAnimation, u32>, exported: &Result<Vec<u8>, u32>) -> Checked {
-        let (take, exported) = match (take, exported) {
-            (Ok(take), Ok(exported)) => (take, exported),
-            (Err(refusal), _) | (_, Err(refusal)) => return self.check_refused(file, *refusal),
-        };
-        let parts = original::parts_of(take, exported);
-        self.check_parts(file, &parts)?;
-        self.check_built(&parts, exported)
+    pub fn check(&mut self, file: &[u8], read: &Expected<Read>) -> Checked {
+        let parts = read.map(|read| original::parts_of(&read.take, &read.exported));
+        let lengths = self.lengths(&parts.lenient);
+        for manner in MANNERS {
+            let parts = parts.in_manner(manner);
+            check_sizes(manner, file, parts)?;
+            for (lengths, long_enough) in &lengths {
+                let expected = if *long_enough { parts } else { parts.and(Err(PARTS_DO_NOT_FIT)) };
+                self.check_call(manner, file, *lengths, expected)?;
+            }
+        }
+        match (&parts.lenient, &read.lenient) {
+            (Ok(parts), Ok(read)) => self.check_built(parts, &read.exported),
+            _ => Ok(()),
+        }
     }
 
-    fn check_refused(&mut self, file: &[u8], refusal: u32) -> Checked {
-        let mut sizes = [SLOT; 4];
-        same("split sizes: answer", library::split_sizes(file, &mut sizes), refusal)?;
-        same("split sizes refused: slots", sizes, [SLOT; 4])?;
-        self.check_call(file, [0; 16], Err(refusal))?;
-        self.check_call(file, [7; 16], Err(refusal))
-    }
-
-    fn check_parts(&mut self, file: &[u8], parts: &Parts) -> Checked {
-        let mut sizes = [SLOT; 4];
-        same("split sizes: answer", library::split_sizes(file, &mut sizes), 0)?;
-        same("split sizes", sizes, sizes_of(parts))?;
+    /// Lengths of the buffers to lend, and whether the parts fit: those of the lenient manner, where it has some.
+    fn lengths(&mut self, parts: &Result<Parts, u32>) -> Vec<([usize; 16], bool)> {
+        let Ok(parts) = parts else { return vec![([0; 16], true), ([7; 16], true)] };
         let exact = lengths_of(parts);
-        self.check_call(file, exact, Ok(parts))?;
         // tables for any names, and every other buffer longer
         let (bones, morphs) = (parts.bone_frames.len(), parts.morph_frames.len());
         let mut longer = exact.map(|len| len + 3);
         longer[..4].copy_from_slice(&[15 * bones, bones, 15 * morphs, morphs]);
-        self.check_call(file, longer, Ok(parts))?;
+        let mut lengths = vec![(exact, true), (longer, true)];
         // one buffer too short, another one for each file
         let some: Vec<usize> = (0..16).filter(|&k| exact[k] > 0).collect();
         if !some.is_empty() {
@@ -134,19 +132,18 @@ impl SplitCheck {
             let mut short = if self.turn % 2 == 0 { exact } else { longer };
             let k = some[self.turn / 2 % some.len()];
             short[k] = exact[k] - 1;
-            self.check_call(file, short, Err(PARTS_DO_NOT_FIT))?;
+            lengths.push((short, false));
         }
-        Ok(())
+        lengths
     }
 
-    fn check_call(&mut self, file: &[u8], lengths: [usize; 16], expected: Result<&Parts, u32>) -> Checked {
+    fn check_call(&mut self, manner: Manner, file: &[u8], lengths: [usize; 16], expected: Result<&Parts, u32>) -> Checked {
         let mut sizes = [SLOT; 4];
-        let answer = library::split_animation_into_parts(file, self.buffers.lend(lengths), &mut sizes);
-        let shown = |part: &str| format!("split into {lengths:?}: {part}");
+        let answer = library::split_animation_into_parts(manner, file, self.buffers.lend(lengths), &mut sizes);
+        let shown = |part: &str| format!("{manner} split into {lengths:?}: {part}");
         same(&shown("answer"), answer, expected.err().unwrap_or(0))?;
         same(&shown("sizes"), sizes, expected.map_or([SLOT; 4], sizes_of))?;
-        let written = expected.map_or_else(|_| Parts::default(), Parts::clone);
-        self.buffers.hold(&written).map_err(|difference| shown(&difference))
+        self.buffers.hold(expected.unwrap_or(&Parts::default())).map_err(|difference| shown(&difference))
     }
 
     /// Building from the parts, which are those that the library gave.
@@ -176,6 +173,13 @@ impl SplitCheck {
         }
         Ok(())
     }
+}
+
+fn check_sizes(manner: Manner, file: &[u8], expected: Result<&Parts, u32>) -> Checked {
+    let mut sizes = [SLOT; 4];
+    let answer = library::split_sizes(manner, file, &mut sizes);
+    same(&format!("{manner} split sizes: answer"), answer, expected.err().unwrap_or(0))?;
+    same(&format!("{manner} split sizes"), sizes, expected.map_or([SLOT; 4], sizes_of))
 }
 
 fn sizes_of(parts: &Parts) -> [u64; 4] {

@@ -1,16 +1,43 @@
 //! Cases by category and outcome, and the differences.
 
+use oracle::strict::BYTES_OVER;
+
 pub struct Tally {
     title: &'static str,
     rows: Vec<Row>,
     pub differences: Vec<String>,
 }
 
+/// A case's answer in each manner of reading; of calls without a manner the same twice.
+#[derive(Clone, Copy)]
+pub struct Answers {
+    pub lenient: u32,
+    pub strict: u32,
+}
+
+impl From<u32> for Answers {
+    fn from(answer: u32) -> Answers {
+        Answers { lenient: answer, strict: answer }
+    }
+}
+
+#[derive(Default)]
 struct Row {
     label: String,
-    /// By answer: 0 is accepted, then refusals 1 to 13.
-    answers: [u64; 14],
+    /// By answer in the lenient manner, 0 for accepted, then refusals 1 to 13; then 16 and 17, which the strict one alone gives.
+    columns: [u64; 16],
     differences: u64,
+}
+
+/// Columns of the lenient manner's answers: every case is in one of them.
+const LENIENT: usize = 14;
+
+fn heading(column: usize) -> String {
+    match column {
+        0 => "accepted".to_owned(),
+        LENIENT.. => format!("strictly {}", column - LENIENT + BYTES_OVER as usize),
+        refusal => refusal.to_string(),
+    }
 }
 
 const SHOWN: usize = 5;
@@ -27,16 +54,16 @@ impl Tally {
 
     fn row(&mut self, label: &str) -> &mut Row {
         let i = self.rows.iter().position(|row| row.label == label).unwrap_or_else(|| {
-            self.rows.push(Row { label: label.to_owned(), answers: [0; 14], differences: 0 });
+            self.rows.push(Row { label: label.to_owned(), ..Row::default() });
             self.rows.len() - 1
         });
         &mut self.rows[i]
     }
 
     /// Counts a case; shown says what its input is, should it differ.
-    pub fn count(&mut self, label: &str, checked: Result<u32, String>, shown: impl FnOnce() -> String) {
+    pub fn count(&mut self, label: &str, checked: Result<impl Into<Answers>, String>, shown: impl FnOnce() -> String) {
         match checked {
-            Ok(answer) => self.row(label).answers[answer as usize] += 1,
+            Ok(answers) => self.row(label).add(answers.into()),
             Err(difference) => {
                 self.row(label).differences += 1;
                 self.differences.push(if self.differences.len() < SHOWN {
@@ -53,19 +80,17 @@ impl Tally {
     }
 
     pub fn print(&self) {
-        let mut total = Row { label: "all".to_owned(), answers: [0; 14], differences: 0 };
+        let mut total = Row { label: "all".to_owned(), ..Row::default() };
         for row in &self.rows {
-            (0..14).for_each(|i| total.answers[i] += row.answers[i]);
+            total.columns.iter_mut().zip(row.columns).for_each(|(sum, cases)| *sum += cases);
             total.differences += row.differences;
         }
-        let answers: Vec<usize> = (0..14).filter(|&i| total.answers[i] > 0).collect();
+        let shown: Vec<usize> = (0..total.columns.len()).filter(|&i| total.columns[i] > 0).collect();
         println!("{}", self.title);
         print!("  {:<44}{:>10}", "", "cases");
-        for &i in &answers {
-            print!("{:>10}", if i == 0 { "accepted".to_owned() } else { i.to_string() });
-        }
+        shown.iter().for_each(|&i| print!("{:>13}", heading(i)));
         println!("{:>13}", "differences");
-        self.rows.iter().chain([&total]).for_each(|row| row.print(&answers));
+        self.rows.iter().chain([&total]).for_each(|row| row.print(&shown));
         for difference in self.differences.iter().take(SHOWN) {
             println!("  DIFFERENCE {difference}");
         }
@@ -73,13 +98,20 @@ impl Tally {
 }
 
 impl Row {
-    fn cases(&self) -> u64 {
-        self.answers.iter().sum::<u64>() + self.differences
+    fn add(&mut self, answers: Answers) {
+        self.columns[answers.lenient as usize] += 1;
+        if answers.strict >= BYTES_OVER {
+            self.columns[LENIENT + (answers.strict - BYTES_OVER) as usize] += 1;
+        }
     }
 
-    fn print(&self, answers: &[usize]) {
+    fn cases(&self) -> u64 {
+        self.columns[..LENIENT].iter().sum::<u64>() + self.differences
+    }
+
+    fn print(&self, shown: &[usize]) {
         print!("  {:<44}{:>10}", self.label, self.cases());
-        answers.iter().for_each(|&i| print!("{:>10}", self.answers[i]));
+        shown.iter().for_each(|&i| print!("{:>13}", self.columns[i]));
         println!("{:>13}", self.differences);
     }
 }

@@ -4,7 +4,10 @@
 use crate::check::{same, Checked, SLOT};
 use crate::lent::{Input, Output, Scratch};
 use crate::library::{self, Figures};
+use crate::manner::{self, Expected, FilesMet, Manner, Read, MANNERS};
+use crate::tally::Answers;
 use oracle::original::{self, VmdParsedAnimation, OUTPUT_TOO_SHORT, SCRATCH_TOO_SHORT};
+use oracle::strict;
 
 #[derive(Default)]
 pub struct TidyCheck {
@@ -13,6 +16,8 @@ pub struct TidyCheck {
     output: Output,
     turn: usize,
     pub tally: TidyTally,
+    /// Of the takes that were made to be tidied.
+    pub met: FilesMet,
 }
 
 /// Takes whose tidied file was compared: all, those of which records were dropped, and those that were put in another order.
@@ -46,78 +51,73 @@ struct Lengths {
 }
 
 impl TidyCheck {
-    /// Every trial; of a long file three. The original's answer, 0 or its refusal; or a difference.
-    pub fn check_file(&mut self, file: &[u8]) -> Result<u32, String> {
+    /// Every trial; of a long file three. The answer in each manner; or a difference.
+    pub fn check_file(&mut self, file: &[u8]) -> Result<Answers, String> {
         let mut input = std::mem::take(&mut self.input);
         let checked = self.check_held(input.hold(file));
         self.input = input;
         checked
     }
 
-    fn check_held(&mut self, file: &[u8]) -> Result<u32, String> {
-        let take = original::read(file);
-        let exported = take.as_ref().map(original::export).map_err(|&refusal| refusal);
-        let tidied = self.tidied(&take, &exported)?;
+    fn check_held(&mut self, file: &[u8]) -> Result<Answers, String> {
+        let met = strict::met(file);
+        let read = manner::read(file, met)?;
+        let tidied = self.tidied(&read)?;
         for trial in (0..TRIALS).filter(|trial| file.len() < LONG || LONG_TRIALS.contains(trial)) {
             self.check_trial(file, &tidied, trial)?;
         }
-        Ok(take.err().unwrap_or(0))
+        self.met.add(file, met);
+        Ok(read.answers())
     }
 
     /// One trial, another one for each file.
-    pub fn check(&mut self, file: &[u8], take: &Result<VmdParsedAnimation, u32>, exported: &Result<Vec<u8>, u32>) -> Checked {
-        let tidied = self.tidied(take, exported)?;
+    pub fn check(&mut self, file: &[u8], read: &Expected<Read>) -> Checked {
+        let tidied = self.tidied(read)?;
         self.turn += 1;
         self.check_trial(file, &tidied, self.turn % TRIALS)
     }
 
-    fn tidied(
-        &mut self,
-        take: &Result<VmdParsedAnimation, u32>,
-        exported: &Result<Vec<u8>, u32>,
-    ) -> Result<Result<Tidied, u32>, String> {
-        let (take, exported) = match (take, exported) {
-            (Ok(take), Ok(exported)) => (take, exported),
-            (Err(refusal), _) | (_, Err(refusal)) => return Ok(Err(*refusal)),
-        };
-        let tidied = original::tidied(take);
-        let (read, kept) = (original::counts_of(take), original::counts_of(&tidied));
-        let dropped = std::array::from_fn(|i| (read[i] - kept[i]) as u32);
-        let figures = Figures { kept: kept.map(|count| count as u32), dropped };
-        let bytes = original::export(&tidied);
-        check_read_back(&bytes, &tidied)?;
-        self.tally.add(take, &figures, &bytes, exported);
-        Ok(Ok(Tidied { bytes, figures, places: *read.iter().max().unwrap(), exported_len: exported.len() }))
+    fn tidied(&mut self, read: &Expected<Read>) -> Result<Expected<Tidied>, String> {
+        let tidied = read.map(tidied_of);
+        if let (Ok(read), Ok((tidied, take))) = (&read.lenient, &tidied.lenient) {
+            check_read_back(&tidied.bytes, take)?;
+            self.tally.add(read, tidied);
+        }
+        Ok(Expected { lenient: tidied.lenient.map(|(tidied, _)| tidied), strict: tidied.strict })
     }
 
-    fn check_trial(&mut self, file: &[u8], tidied: &Result<Tidied, u32>, trial: usize) -> Checked {
-        let lengths = match tidied {
+    /// The strict manner is lent what the lenient one needs.
+    fn check_trial(&mut self, file: &[u8], tidied: &Expected<Tidied>, trial: usize) -> Checked {
+        let lengths = match &tidied.lenient {
             Err(_) => Lengths { places: [0, 3][trial % 2], out: [0, 90][trial / 2 % 2] },
             Ok(tidied) => lengths_of(tidied, trial),
         };
-        if trial < SIZE_TRIALS {
-            self.check_size(file, lengths.places, tidied)
-        } else {
-            self.check_written(file, lengths, tidied)
+        for manner in MANNERS {
+            if trial < SIZE_TRIALS {
+                self.check_size(manner, file, lengths.places, tidied.in_manner(manner))?;
+            } else {
+                self.check_written(manner, file, lengths, tidied.in_manner(manner))?;
+            }
         }
+        Ok(())
     }
 
-    fn check_size(&mut self, file: &[u8], places: usize, tidied: &Result<Tidied, u32>) -> Checked {
+    fn check_size(&mut self, manner: Manner, file: &[u8], places: usize, tidied: Result<&Tidied, u32>) -> Checked {
         let (mut size, mut figures) = (SLOT, UNSET);
-        let answer = library::tidy_size(file, self.scratch.lend(places), &mut size, &mut figures);
+        let answer = library::tidy_size(manner, file, self.scratch.lend(places), &mut size, &mut figures);
         let expected = expected_of(tidied, Lengths { places, out: usize::MAX });
-        let shown = |part: &str| format!("tidied size with {places} places: {part}");
+        let shown = |part: &str| format!("{manner} tidied size with {places} places: {part}");
         same(&shown("answer"), answer, expected.err().unwrap_or(0))?;
         same(&shown("size"), size, expected.map_or(SLOT, |tidied| tidied.bytes.len() as u64))?;
         self.check_left(figures, expected).map_err(|difference| shown(&difference))
     }
 
-    fn check_written(&mut self, file: &[u8], lengths: Lengths, tidied: &Result<Tidied, u32>) -> Checked {
+    fn check_written(&mut self, manner: Manner, file: &[u8], lengths: Lengths, tidied: Result<&Tidied, u32>) -> Checked {
         let (mut written, mut figures) = (SLOT, UNSET);
         let (scratch, out) = (self.scratch.lend(lengths.places), self.output.lend(lengths.out));
-        let answer = library::tidy_animation(file, scratch, out, &mut written, &mut figures);
+        let answer = library::tidy_animation(manner, file, scratch, out, &mut written, &mut figures);
         let expected = expected_of(tidied, lengths);
-        let shown = |part: &str| format!("tidied with {lengths:?}: {part}");
+        let shown = |part: &str| format!("{manner} tidied with {lengths:?}: {part}");
         same(&shown("answer"), answer, expected.err().unwrap_or(0))?;
         same(&shown("length written"), written, expected.map_or(SLOT, |tidied| tidied.bytes.len() as u64))?;
         self.output.holds(expected.map_or(&[], |tidied| &tidied.bytes)).map_err(|difference| shown(&difference))?;
@@ -131,13 +131,22 @@ impl TidyCheck {
     }
 }
 
+/// What tidying has to give, and the take that it keeps.
+fn tidied_of(read: &Read) -> (Tidied, VmdParsedAnimation) {
+    let take = original::tidied(&read.take);
+    let (counts, kept) = (original::counts_of(&read.take), original::counts_of(&take));
+    let dropped = std::array::from_fn(|i| (counts[i] - kept[i]) as u32);
+    let figures = Figures { kept: kept.map(|count| count as u32), dropped };
+    let places = *counts.iter().max().unwrap();
+    (Tidied { bytes: original::export(&take), figures, places, exported_len: read.exported.len() }, take)
+}
+
 /// Refusals 3 and 13 by request g).
-fn expected_of(tidied: &Result<Tidied, u32>, lengths: Lengths) -> Result<&Tidied, u32> {
+fn expected_of(tidied: Result<&Tidied, u32>, lengths: Lengths) -> Result<&Tidied, u32> {
     match tidied {
-        Err(refusal) => Err(*refusal),
         Ok(tidied) if lengths.places < tidied.places => Err(SCRATCH_TOO_SHORT),
         Ok(tidied) if lengths.out < tidied.bytes.len() => Err(OUTPUT_TOO_SHORT),
-        Ok(tidied) => Ok(tidied),
+        _ => tidied,
     }
 }
 
@@ -179,7 +188,7 @@ fn check_read_back(bytes: &[u8], tidied: &VmdParsedAnimation) -> Checked {
 }
 
 impl TidyTally {
-    fn add(&mut self, take: &VmdParsedAnimation, figures: &Figures, bytes: &[u8], exported: &[u8]) {
+    fn add(&mut self, Read { take, exported }: &Read, Tidied { bytes, figures, .. }: &Tidied) {
         let sum = |numbers: &[u32; 6]| numbers.iter().map(|&number| number as u64).sum::<u64>();
         let bones = original::tracks(&take.bone_frames, |record| &record.bone_name_bytes).len();
         let morphs = original::tracks(&take.morph_frames, |record| &record.morph_name_bytes).len();

@@ -2,7 +2,7 @@
 
 use crate::files::{frame, other_count, put_record, Pieces, Section};
 use crate::named::{put_name, some_names};
-use crate::older::narrowed;
+use crate::older::{narrowed, of_either_edition};
 use crate::original;
 use crate::random::Random;
 
@@ -18,7 +18,7 @@ pub const DAMAGED: &str = "frames that repeat, damaged";
 pub fn crowded_file(random: &mut Random) -> (&'static str, Vec<u8>) {
     match random.below(8) {
         0 => (OLDER_CROWDED, narrowed(&crowded(random).file())),
-        1 => (DAMAGED, damaged(random)),
+        1 => (DAMAGED, of_either_edition(damaged(random), random)),
         2 | 3 => (JOINED, joined(random)),
         _ => (CROWDED, crowded(random).file()),
     }

@@ -1,4 +1,4 @@
-//! What the original Rust answers, and the inputs that it is asked about.
+//! What the original Rust answers, the inputs that it is asked about, and what a strict reader meets in them.
 
 pub mod crowded;
 pub mod files;
@@ -11,3 +11,5 @@ pub mod part_sets;
 pub mod parts;
 pub mod properties;
 pub mod random;
+pub mod strict;
+pub mod turned_down;

@@ -57,6 +57,15 @@ pub fn narrowed(file: &[u8]) -> Vec<u8> {
     older
 }
 
+/// As it is, or with an older header.
+pub fn of_either_edition(file: Vec<u8>, random: &mut Random) -> Vec<u8> {
+    if random.one_in(2) {
+        narrowed(&file)
+    } else {
+        file
+    }
+}
+
 pub const HEADER_CUT: &str = "cut near the older header's end";
 pub const HEADER_OTHER: &str = "other bytes in the older header";
 
