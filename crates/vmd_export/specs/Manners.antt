@@ -5,7 +5,7 @@ use mathlib.Core.Path.{_≡_, refl}
 use mathlib.Core.Logic.{_↔_}
 use mathlib.Core.List.{List}
 use lib.ListN.{length}
-use Rattle.vmd_format.specs.Answer.{Answer, declined, given, and-then, map-answer, unless, fitted, left}
+use Rattle.vmd_format.specs.Answer.{given, and-then, map-answer, fitted, left}
 use Rattle.vmd_format.specs.Read.{Manner, strict, lenient}
 use Rattle.vmd_format.specs.Take.{Take, older, write-take}
 use Rattle.vmd_format.specs.Join.{export-file, edition-take, older-file, join, join-takes, join-files}

@@ -1,16 +1,15 @@
 -- The two manners of reading (02 i): files that only the lenient one accepts, files that both do, and what is met first.
 use Prim.Native.Nat.{ℕ}
-use mathlib.Core.Path.{_≡_, refl}
-use mathlib.Core.Bool.{Bool, true, false, _&&_, not}
+use mathlib.Core.Bool.{Bool, _&&_}
 use mathlib.Core.List.{List, [], _∷_, _++_}
-use lib.ListN.{length, take, replicate}
-use lib.Dec.{eqb, T}
-use Rattle.vmd_format.specs.Answer.{Answer, declined, given, fitted, left}
+use lib.ListN.{take, replicate}
+use lib.Dec.{T}
+use Rattle.vmd_format.specs.Answer.{fitted, left}
 use Rattle.vmd_format.specs.Read.{strict, lenient}
 use Rattle.vmd_format.specs.Take.{same}
 use Rattle.vmd_format.specs.Opening.{open-file, scratch-after}
 use Rattle.vmd_format.specs.Join.{export-file, older-file, join-files}
-use Rattle.vmd_format.specs.Computed.{computed, declines, bytes-of, start, older-start, fours, u0, u1, bone-bytes, light-bytes, shadow-bytes, ik-bytes, one-each-after}
+use Rattle.vmd_format.specs.Computed.{computed, declines, bytes-of, start, older-start, fours, u0, u1, light-bytes, shadow-bytes, ik-bytes, one-each-after}
 
 -- refused with this number in the strict manner, and exported by the lenient one as these bytes
 abbrev only-lenient : List ℕ → ℕ → List ℕ → Bool

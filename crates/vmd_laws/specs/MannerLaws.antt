@@ -12,7 +12,7 @@ use Rattle.vmd_format.specs.Refusal.{Refusal, bytes-over, count-oversized}
 use Rattle.vmd_format.specs.Answer.{Answer, declined, given}
 use Rattle.vmd_format.specs.Read.{Step, refused, got, Reader, bind, Codec, many, Section, no-section, refuse, emptied, ignored, turned-down, strict, lenient, over-count, records-if, counted-if, counted, optional}
 use Rattle.vmd_format.specs.Take.{Take, File, header, ended, sections, read-file, answer, read-take}
-use Rattle.vmd_format.specs.Opening.{Opening, opened, open-file, scratch-of, scratch-after}
+use Rattle.vmd_format.specs.Opening.{opened, open-file, scratch-of, scratch-after}
 
 -- ---- definitions
 
