@@ -1,6 +1,6 @@
 /*
- * VMD takes (MikuMikuDance motion files): read, saved, joined, tidied, built from parts and split into them; figures over many
- * takes.
+ * VMD takes (MikuMikuDance motion files): read, saved, joined, tidied, cut to excerpts, built from parts and split into them;
+ * figures over many takes.
  *
  * Files of both editions are read by every call that takes a file. The newer begin with "Vocaloid Motion Data 0002" and have
  * a model name of 20 bytes, the older with "Vocaloid Motion Data file" and one of 10; after the name all is the same. Places
@@ -58,7 +58,8 @@ enum vmd_refusal {
     VMD_PARTS_DO_NOT_FIT = 14,    /* a buffer for parts is too short, or a name table passes 4,294,967,295 bytes */
     VMD_MODEL_NAME_TOO_LONG = 15, /* the model name is over 10 bytes, which the older edition cannot hold */
     VMD_BYTES_OVER = 16,          /* strict: bytes after the last property frame, or after a property count of 0 */
-    VMD_COUNT_OVERSIZED = 17      /* strict: a camera, light or self-shadow count whose records exceed the bytes left */
+    VMD_COUNT_OVERSIZED = 17,     /* strict: a camera, light or self-shadow count whose records exceed the bytes left */
+    VMD_FIRST_ABOVE_LAST = 18     /* the first frame of an excerpt is above the last */
 };
 
 /* Bytes of each record in a file. */
@@ -268,6 +269,27 @@ uint32_t vmd_tidy_animation(const uint8_t *file, size_t file_len, uint64_t *scra
                             size_t out_len, uint64_t *written, uint32_t kept[6], uint32_t dropped[6]);
 uint32_t vmd_tidy_animation_lenient(const uint8_t *file, size_t file_len, uint64_t *scratch, size_t scratch_len, uint8_t *out,
                                     size_t out_len, uint64_t *written, uint32_t kept[6], uint32_t dropped[6]);
+
+/*
+ * ---- excerpts
+ *
+ * The canonical file of the records whose frame lies between a first and a last frame, both included, with the first
+ * subtracted from each frame. Order and model name are kept; where no record stays, the file has 74 bytes. From 0 to
+ * 4,294,967,295 it is the export.
+ *
+ * An excerpt is never longer than the export: an out of the export's length is never refused with 13. With a shorter out the
+ * records that stay are counted first, as the size call does: one more pass over the file's frames.
+ */
+
+/* Refusals: 18, before the file is read; reading; 13 where no 64-bit length could hold the file. */
+uint32_t vmd_excerpt_size(const uint8_t *file, size_t file_len, uint32_t first_frame, uint32_t last_frame, uint64_t *size);
+uint32_t vmd_excerpt_size_lenient(const uint8_t *file, size_t file_len, uint32_t first_frame, uint32_t last_frame,
+                                  uint64_t *size);
+/* Refusals: 18, before the file is read; reading; 13. */
+uint32_t vmd_excerpt_animation(const uint8_t *file, size_t file_len, uint32_t first_frame, uint32_t last_frame, uint8_t *out,
+                               size_t out_len, uint64_t *written);
+uint32_t vmd_excerpt_animation_lenient(const uint8_t *file, size_t file_len, uint32_t first_frame, uint32_t last_frame,
+                                       uint8_t *out, size_t out_len, uint64_t *written);
 
 /*
  * ---- building

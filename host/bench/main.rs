@@ -1,6 +1,6 @@
-//! How long reading, saving, joining, tidying, building, splitting and the figures of a season take, as multiples of a plain
-//! copy of the same bytes, in one process. The original Rust is measured beside where it is built in (feature `original`). Prints the
-//! tables of docs/PERFORMANCE.md.
+//! How long reading, saving, joining, tidying, cutting, building, splitting and the figures of a season take, as multiples of a
+//! plain copy of the same bytes, in one process. The original Rust is measured beside where it is built in (feature
+//! `original`). Prints the tables of docs/PERFORMANCE.md.
 //!
 //! Times are the process's CPU time. A call and its copy are measured one after the other, each in the same state of the
 //! caches: other memory is read, twice as much as the last cache holds, and then it runs several times. The first run is
@@ -17,6 +17,7 @@ use vmd::Take;
 
 mod against;
 mod calls;
+mod excerpt;
 mod measure;
 mod older;
 #[cfg(feature = "original")]
@@ -374,6 +375,7 @@ fn main() {
             against::table(calls, full, effort(full).batch, [new, old]);
             if option == "--against" {
                 against::fetches(full, [new, old]);
+                against::excerpts(full, effort(full).batch, [new, old]);
             }
             return;
         }
@@ -392,6 +394,10 @@ fn main() {
         [option] if option == "--tidy-refused" => {
             println!("Measured by `./bench` on {}.", machine());
             return tidy::refused(full);
+        }
+        [option] if option == "--excerpt" => {
+            println!("Measured by `./bench` on {}.", machine());
+            return excerpt::table(full, &Other::new());
         }
         [option] if option == "--older" => {
             println!("Measured by `./bench` on {}.", machine());
@@ -412,7 +418,7 @@ fn main() {
         _ => {
             eprintln!(
                 "bench: the options are --quick, which measures small takes, --older, --properties, --split, --season, --tidy, \
-                 --tidy-refused, --tables, --names, --against LIBRARY and --opening LIBRARY"
+                 --tidy-refused, --excerpt, --tables, --names, --against LIBRARY and --opening LIBRARY"
             );
             std::process::exit(2);
         }
@@ -435,6 +441,7 @@ fn main() {
     split::table(split_sizes, &other);
     split::season(full, &other);
     tidy::table(full);
+    excerpt::table(full, &other);
     tables::table(table_names, full);
     memory(full);
 }

@@ -9,3 +9,10 @@ mod takes;
 pub fn run_call(call: calls::Call, material: &takes::Material, out: &mut [u8]) {
     call.run(material, out);
 }
+
+/// Of a library that has excerpts: the names of the calls are not there in one from before them.
+#[cfg(feature = "excerpt")]
+#[unsafe(no_mangle)]
+pub fn run_excerpt(file: &[u8], [first, last]: [u32; 2], out: &mut [u8]) {
+    std::hint::black_box(vmd::excerpt_into(file, first, last, out).unwrap());
+}

@@ -456,3 +456,43 @@ pub fn with_keys(sections: &[(Section, usize)], keys: Keys, all_different: bool)
     }
     file
 }
+
+// ---- takes to cut
+
+/// The frames of a take to cut: the first, and how many there are.
+pub const FIRST_FRAME: u32 = 1000;
+pub const FRAMES: u32 = 9000;
+
+/// A take whose every section has these frames, rising, and the same with frames at random.
+fn to_cut(file: Vec<u8>) -> [Vec<u8>; 2] {
+    let mut random = Random(2_463_534_242);
+    let rising = with_frames(file.clone(), |i, records| FIRST_FRAME + (i * FRAMES as usize / records) as u32);
+    [rising, with_frames(file, |_, _| FIRST_FRAME + random.next() % FRAMES)]
+}
+
+/// One of so many bytes.
+pub fn kind_to_cut(kind: Kind, size: usize) -> [Vec<u8>; 2] {
+    to_cut(Material::new(kind, Names::Padded, size).file)
+}
+
+/// One with records of one section.
+pub fn section_to_cut(section: Section, size: usize) -> [Vec<u8>; 2] {
+    to_cut(with_keys(&[(section, section.records(size))], Keys::Tidy, false))
+}
+
+/// A file of the newer edition with all six sections, and other frames: each by the record's number in its section and how
+/// many records that has.
+fn with_frames(mut file: Vec<u8>, mut frame: impl FnMut(usize, usize) -> u32) -> Vec<u8> {
+    let number = |file: &[u8], at: usize| u32::from_le_bytes(file[at..at + 4].try_into().unwrap()) as usize;
+    let mut at = 50;
+    for (section, (size, frame_at)) in [(111, 15), (23, 15), (61, 0), (28, 0), (9, 0), (9, 0)].into_iter().enumerate() {
+        let records = number(&file, at);
+        at += 4;
+        for i in 0..records {
+            file[at + frame_at..][..4].copy_from_slice(&frame(i, records).to_le_bytes());
+            at += size + if section == 5 { 21 * number(&file, at + 5) } else { 0 };
+        }
+    }
+    assert_eq!(at, file.len());
+    file
+}

@@ -32,6 +32,8 @@ mod lenient {
         vmd_join_animations_lenient as vmd_join_animations,
         vmd_tidy_size_lenient as vmd_tidy_size,
         vmd_tidy_animation_lenient as vmd_tidy_animation,
+        vmd_excerpt_size_lenient as vmd_excerpt_size,
+        vmd_excerpt_animation_lenient as vmd_excerpt_animation,
         vmd_split_sizes_lenient as vmd_split_sizes,
         vmd_split_animation_into_parts_lenient as vmd_split_animation_into_parts,
     };
@@ -324,6 +326,41 @@ pub fn tidy(manner: Manner, file: &[u8], scratch: &mut [u64]) -> Result<Tidied, 
     })?;
     tidied.shrink_to_fit();
     Ok(Tidied { file: tidied, sections: TidiedSections::of(kept, dropped) })
+}
+
+#[inline]
+pub fn excerpt_size(manner: Manner, file: &[u8], first: u32, last: u32) -> Result<u64, Refusal> {
+    let call = in_manner!(manner, vmd_excerpt_size);
+    let mut size = 0;
+    // SAFETY: a slice, two numbers, and a number of this function's own.
+    answered(unsafe { call(file.as_ptr(), file.len(), first, last, &mut size) })?;
+    Ok(size)
+}
+
+#[inline]
+pub fn excerpt_into(manner: Manner, file: &[u8], first: u32, last: u32, out: &mut [u8]) -> Result<usize, Refusal> {
+    let call = in_manner!(manner, vmd_excerpt_animation);
+    let mut written = 0;
+    let (at, len) = (out.as_mut_ptr(), out.len());
+    // SAFETY: two slices, of which the output is borrowed by this call alone, and two numbers.
+    answered(unsafe { call(file.as_ptr(), file.len(), first, last, at, len, &mut written) })?;
+    Ok(written as usize)
+}
+
+/// Cuts into memory of its own for as many bytes as the export has, so that the records need not be counted first.
+#[inline]
+pub fn excerpt(manner: Manner, file: &[u8], first: u32, last: u32) -> Result<Vec<u8>, Error> {
+    let call = in_manner!(manner, vmd_excerpt_animation);
+    // As the library does: before the file's own refusals, which asking for the export's length would tell.
+    if first > last {
+        return Err(Refusal::FirstAboveLast.into());
+    }
+    // SAFETY: a slice, two numbers, and new memory for `len` bytes, of which the call reads none that it has not written.
+    let mut excerpt = written(export_size(manner, file)?, |out, len, written| unsafe {
+        call(file.as_ptr(), file.len(), first, last, out, len, written)
+    })?;
+    excerpt.shrink_to_fit();
+    Ok(excerpt)
 }
 
 /// The place of a name's first byte, read left to right, that starts neither a good single byte nor a good pair of Shift_JIS;
@@ -882,6 +919,37 @@ mod tests {
         assert_eq!(tidying(&[0; 30], 0, 0), [refused(2); 2]);
         for (number, file) in damaged() {
             assert_eq!([0, 99].map(|room| tidying(&file, room, room)), [[refused(number); 2]; 2]);
+        }
+    }
+
+    /// The numbers and the slots of both calls for an excerpt, with so many bytes of output; the slots held 7s.
+    fn excerpts(file: &[u8], first: u32, last: u32, room: usize) -> [(u32, u64); 2] {
+        let (mut size, mut len, mut out) = (7, 7, vec![7; room]);
+        let (at, file, file_len) = (out.as_mut_ptr(), file.as_ptr(), file.len());
+        // SAFETY: slices, and two numbers of this function's own.
+        let numbers = unsafe {
+            [
+                header::vmd_excerpt_size(file, file_len, first, last, &mut size),
+                header::vmd_excerpt_animation(file, file_len, first, last, at, room, &mut len),
+            ]
+        };
+        [(numbers[0], size), (numbers[1], len)]
+    }
+
+    /// A refused call leaves the slot for the length as it was.
+    #[test]
+    fn slots_of_excerpts() {
+        let [file, _] = both_editions(); // two property frames, at frame 1
+        assert_eq!(excerpts(&file, 1, 1, 92), [(0, 92); 2]);
+        assert_eq!(excerpts(&file, 2, 9, 99), [(0, 74); 2]);
+        assert_eq!(excerpts(&file, 0, 1, 91), [(0, 92), (13, 7)]);
+        assert_eq!(excerpts(&file, 2, 9, 73), [(0, 74), (13, 7)]);
+        assert_eq!(excerpts(&file, 2, 1, 99), [(18, 7); 2]);
+        assert_eq!(excerpts(&[], 2, 1, 0), [(18, 7); 2]);
+        assert_eq!(excerpts(&file[..file.len() - 1], 2, 9, 99), [(1, 7); 2]);
+        assert_eq!(excerpts(&[0; 30], 2, 9, 99), [(2, 7); 2]);
+        for (number, file) in damaged() {
+            assert_eq!([0, 99].map(|room| excerpts(&file, 2, 9, room)), [[(number, 7); 2]; 2]);
         }
     }
 

@@ -156,6 +156,20 @@ unsafe extern "C" {
         file: *const u8, file_len: usize, scratch: *mut u64, scratch_len: usize, out: *mut u8, out_len: usize,
         written: *mut u64, kept: *mut [u32; 6], dropped: *mut [u32; 6],
     ) -> u32;
+    pub fn vmd_excerpt_size(
+        file: *const u8, file_len: usize, first_frame: u32, last_frame: u32, size: *mut u64,
+    ) -> u32;
+    pub fn vmd_excerpt_size_lenient(
+        file: *const u8, file_len: usize, first_frame: u32, last_frame: u32, size: *mut u64,
+    ) -> u32;
+    pub fn vmd_excerpt_animation(
+        file: *const u8, file_len: usize, first_frame: u32, last_frame: u32, out: *mut u8, out_len: usize,
+        written: *mut u64,
+    ) -> u32;
+    pub fn vmd_excerpt_animation_lenient(
+        file: *const u8, file_len: usize, first_frame: u32, last_frame: u32, out: *mut u8, out_len: usize,
+        written: *mut u64,
+    ) -> u32;
     pub fn vmd_first_fault(name: *const u8, name_len: usize) -> usize;
     pub fn vmd_build_size(
         model_name: *const u8, model_name_len: usize,

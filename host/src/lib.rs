@@ -1,5 +1,5 @@
-//! VMD takes, the motion files of MikuMikuDance: read, saved, joined, tidied, built from parts and split into them, and
-//! figures over many of them.
+//! VMD takes, the motion files of MikuMikuDance: read, saved, joined, tidied, cut to excerpts, built from parts and split into
+//! them, and figures over many of them.
 //!
 //! Files of both editions are read: the newer begin with `Vocaloid Motion Data 0002`, the older with `Vocaloid Motion Data
 //! file`. What is written is of the newer edition, but for [`export_older`].
@@ -38,6 +38,10 @@
 //! assert_eq!((tidied.sections.properties.kept, tidied.sections.properties.dropped), (1, 1));
 //! assert_eq!(tidied.file, file);
 //!
+//! // from frame 60 on, which becomes frame 0: what was at frame 90 is at frame 30
+//! let piece = vmd::excerpt(&file, 60, u32::MAX)?;
+//! assert_eq!(vmd::Take::open(&piece)?.largest_frame(), 30);
+//!
 //! // columns and records to edit, and the take that they make
 //! let parts = take.parts()?;
 //! assert_eq!(parts.property_frames, frames);
@@ -49,6 +53,7 @@
 
 #[allow(unsafe_code)]
 mod c;
+mod excerpt;
 #[allow(unsafe_code)]
 mod header;
 mod manner;
@@ -65,6 +70,7 @@ mod take;
 mod tidy;
 
 pub use c::first_fault;
+pub use excerpt::{excerpt, excerpt_into, excerpt_size};
 pub use manner::Manner;
 pub use parts::{NameTable, OwnedParts, Parts, PartsMut, TableSizes, split_into, split_sizes};
 pub use refusal::{Error, Refusal};

@@ -1,4 +1,4 @@
-//! The command `vmd`: lists, saves, joins and tidies takes, and gives the figures of a season.
+//! The command `vmd`: lists, saves, joins, tidies and cuts takes, and gives the figures of a season.
 #![deny(unsafe_code)]
 
 #[allow(unsafe_code)]
@@ -38,26 +38,31 @@ vmd: VMD takes (MikuMikuDance motion files)
                                   and morph stand together, in order of first appearance, and all are sorted by frame. Once
                                   OUT is saved standard error has a line for each section: how many records were kept and
                                   dropped
+  vmd excerpt FIRST LAST IN -o OUT
+                                  saves a piece of a take: the records from frame FIRST to frame LAST, both included, in
+                                  their order and under the model name. FIRST is subtracted from each frame and so becomes
+                                  frame 0. FIRST and LAST are whole numbers from 0 to 4294967295; FIRST above LAST is
+                                  refused with 18, before IN is read
   vmd season FILE..               figures over all takes together, one figure a line: the figure's name, ': ' and the
                                   number. They are how many takes were accepted and refused; for each section its records
                                   in all takes, and the smallest and the largest number of them in a take; the distinct
                                   bone and morph names of each take, added up; the records of all sections, and these
                                   divided by the accepted takes, with the remainder
-  --lenient                       an option of 'export', 'join' and 'tidy': they read a damaged take too, and OUT has lost a
-                                  part of it (see below)
+  --lenient                       an option of 'export', 'join', 'tidy' and 'excerpt': they read a damaged take too, and OUT
+                                  has lost a part of it (see below)
   vmd --help, vmd --version
 
-A damaged take is refused by the commands that save, 'export', 'join' and 'tidy': with 16 where there are bytes after its
-last property frame, or after a property count of 0, and with 17 where a camera, light or self-shadow count is too large for
-the bytes after it. With the option --lenient they read it, and OUT has lost a part of it: with 16 those bytes, with 17 that
-section's records and every section after it, IK frames among them. 'list' and 'season' save nothing and always read so.
+A damaged take is refused by the four commands that save: with 16 where there are bytes after its last property frame, or
+after a property count of 0, and with 17 where a camera, light or self-shadow count is too large for the bytes after it. With
+the option --lenient they read it, and OUT has lost a part of it: with 16 those bytes, with 17 that section's records and
+every section after it, IK frames among them. 'list' and 'season' save nothing and always read so.
 
 Takes of both editions are read: the newer begin with 'Vocaloid Motion Data 0002', the older with 'Vocaloid Motion Data
 file'. What is written is of the newer edition, but for 'vmd export --older'.
 
-IN, FIRST, SECOND and FILE may be '-' for standard input, one of them at most, and OUT for standard output. No file follows
--o OUT, unless after '--': there every word is a file, one that begins with '-' too, as in 'vmd join -o OUT -- FIRST
-SECOND..'. In a name that is shown, control characters and '\\' are written as in a string of Rust.
+IN, FILE and the takes of a join may be '-' for standard input, one of them at most, and OUT for standard output. No file and
+no frame follows -o OUT, unless after '--': there no word is an option, so that a file's name may begin with '-', as in 'vmd
+join -o OUT -- FIRST SECOND..'. In a name that is shown, control characters and '\\' are written as in a string of Rust.
 
 OUT may be one of the takes that are read, and a link: then the file it leads to is replaced. It is replaced whole or, where
 anything fails, not at all. It keeps its mode, access list and user's attributes, and its owner and group where the system
@@ -69,9 +74,10 @@ In the figures of a season a take that is refused counts as refused and nowhere 
 nowhere, not as refused either: the figures are those of the other files. With several files a terminal shows how far the
 command is.
 
-Exit status: 0; 1 where a take is refused; 2 for bad usage, or where a file cannot be read or written: a file OUT is as it
-was; 3 where OUT is the new file, and only its folder could not be flushed: after a loss of power the old one may be back.
-With status 3 a join into one of its own takes is not to be repeated. Of several the largest is given.
+Exit status: 0; 1 where a take is refused, or FIRST is above LAST; 2 for bad usage, or where a file cannot be read or
+written: a file OUT is as it was; 3 where OUT is the new file, and only its folder could not be flushed: after a loss of
+power the old one may be back. With status 3 a join into one of its own takes, or an excerpt saved over its take, is not to
+be repeated. Of several the largest is given.
 ";
 
 /// Bytes enough to see whether a file is a take: those before the first section, of which the older edition has fewer.
@@ -85,7 +91,7 @@ const LENIENT: &str = "--lenient";
 
 /// Why the command did not do what it was asked.
 enum Failure {
-    /// A take that is refused: its name, why, and what is told of an option that helps.
+    /// A take that is refused, or the frames of an excerpt: its name or these, why, and what is told of an option that helps.
     Refused(String, Refusal, &'static str),
     /// A take that counts as refused only because a figure of the season has no room for it: its name.
     NoRoom(String),
@@ -185,17 +191,18 @@ fn run(words: &[OsString]) -> Result<u8, Failure> {
     let Some((command, words)) = words.split_first() else {
         return Err(Failure::Usage("no command is given".into()));
     };
-    let (run, options): (Run, &[&str]) = match command.to_str() {
+    let (run, options, frames): (Run, &[&str], usize) = match command.to_str() {
         Some("--help" | "-h" | "help") => return print(HELP),
         Some("--version") => return print(concat!("vmd ", env!("CARGO_PKG_VERSION"), "\n")),
-        Some("list") => (list, &[]),
-        Some("export") => (export, &[OLDER, LENIENT]),
-        Some("join") => (join, &[LENIENT]),
-        Some("tidy") => (tidy, &[LENIENT]),
-        Some("season") => (season, &[]),
+        Some("list") => (list, &[], 0),
+        Some("export") => (export, &[OLDER, LENIENT], 0),
+        Some("join") => (join, &[LENIENT], 0),
+        Some("tidy") => (tidy, &[LENIENT], 0),
+        Some("excerpt") => (excerpt, &[LENIENT], 2),
+        Some("season") => (season, &[], 0),
         _ => return Err(Failure::Usage(format!("there is no command '{}'", shown(command)))),
     };
-    match Words::of(words, options) {
+    match Words::of(words, options, frames) {
         Ok(Some(words)) => run(&words),
         Ok(None) => print(HELP),
         Err(wrong) => Err(wrong.into()),
@@ -317,6 +324,21 @@ fn kept_and_dropped(sections: &TidiedSections) -> String {
     ]
     .map(|(section, of)| format!("{section}: {} kept, {} dropped\n", of.kept, of.dropped))
     .concat()
+}
+
+fn excerpt(words: &Words) -> Result<u8, Failure> {
+    let to = words.output()?;
+    let ([first, last], [from]) = (&words.frames[..], &words.files[..]) else {
+        return Err(Failure::Usage("two frames and one file are needed, FIRST, LAST and IN".into()));
+    };
+    let (first, last) = (words::frame(first)?, words::frame(last)?);
+    // Told before the file is read, which may be missing.
+    if first > last {
+        return Err(Failure::Refused(format!("frames {first} to {last}"), Refusal::FirstAboveLast, ""));
+    }
+    let mut sources = Sources::default();
+    let piece = manner(words).excerpt(&sources.read(from)?, first, last).map_err(|error| Failure::of(from, error))?;
+    sources.write(to, &piece)
 }
 
 /// One take after another, each freed before the next is read.

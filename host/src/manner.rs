@@ -126,6 +126,24 @@ impl Manner {
         c::tidy_into(self, file, scratch, out)
     }
 
+    /// [`excerpt`](crate::excerpt) in this manner.
+    #[inline]
+    pub fn excerpt(self, file: &[u8], first: u32, last: u32) -> Result<Vec<u8>, Error> {
+        c::excerpt(self, file, first, last)
+    }
+
+    /// [`excerpt_size`](crate::excerpt_size) in this manner.
+    #[inline]
+    pub fn excerpt_size(self, file: &[u8], first: u32, last: u32) -> Result<u64, Refusal> {
+        c::excerpt_size(self, file, first, last)
+    }
+
+    /// [`excerpt_into`](crate::excerpt_into) in this manner.
+    #[inline]
+    pub fn excerpt_into(self, file: &[u8], first: u32, last: u32, out: &mut [u8]) -> Result<usize, Refusal> {
+        c::excerpt_into(self, file, first, last, out)
+    }
+
     /// [`split_sizes`](crate::split_sizes) in this manner.
     #[inline]
     pub fn split_sizes(self, file: &[u8]) -> Result<TableSizes, Refusal> {

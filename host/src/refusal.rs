@@ -87,6 +87,8 @@ refusals! {
     /// A camera, light or self-shadow count whose records exceed the bytes left. The strict manner alone gives it
     /// ([`Manner`](crate::Manner)).
     CountOversized = 17, "a camera, light or self-shadow count is too large for the bytes after it";
+    /// The first frame of an excerpt is above the last. It comes before anything that the file is refused for.
+    FirstAboveLast = 18, "the first frame is above the last";
 }
 
 impl std::error::Error for Refusal {}

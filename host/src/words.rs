@@ -1,4 +1,4 @@
-//! The words after a command's name, read in one place for all commands: files, `-o OUT`, options, `--help` and `--`.
+//! The words after a command's name, read in one place for all commands: frames, files, `-o OUT`, options, `--help` and `--`.
 use std::ffi::{OsStr, OsString};
 
 use vmd::shown;
@@ -6,6 +6,8 @@ use vmd::shown;
 /// What a command was given.
 #[derive(Debug, Default)]
 pub struct Words<'w> {
+    /// The words that stand where the command takes frames, before the files; [`frame`] reads them.
+    pub frames: Vec<&'w OsStr>,
     /// The files to read, in their order; `-` is standard input.
     pub files: Vec<&'w OsStr>,
     out: Option<&'w OsStr>,
@@ -14,23 +16,32 @@ pub struct Words<'w> {
 
 impl<'w> Words<'w> {
     /// None where help is asked for; else the words, or what is wrong with them. The options are those that the command has
-    /// besides `-o` and `--help`; each stands anywhere before `--`.
-    pub fn of(words: &'w [OsString], options: &[&str]) -> Result<Option<Self>, String> {
+    /// besides `-o` and `--help`; each stands anywhere before `--`. So many frames stand before the files.
+    pub fn of(words: &'w [OsString], options: &[&str], frames: usize) -> Result<Option<Self>, String> {
         let mut given = Words::default();
         let mut words = words.iter().map(OsString::as_os_str);
         while let Some(word) = words.next() {
             match word.to_str() {
                 Some("--help" | "-h") => return Ok(None),
                 Some("-o") => given.name_output(words.next())?,
-                Some("--") => given.files.extend(words.by_ref()),
+                Some("--") => words.by_ref().for_each(|word| given.add(word, frames)),
                 Some(option) if options.contains(&option) => given.add_option(option)?,
-                _ if is_option(word) => return Err(format!("there is no option '{}'", shown(word))),
+                // In a frame's place a number below 0 is told as a frame that is wrong.
+                _ if is_option(word) && !(is_negative(word) && given.frames.len() < frames) => {
+                    return Err(format!("there is no option '{}'", shown(word)));
+                }
                 // A list of takes where OUT was forgotten, as in 'join -o *.vmd', would lose the first of them.
                 _ if given.out.is_some() => return Err(format!("'{}' follows -o OUT, which stands last", shown(word))),
-                _ => given.files.push(word),
+                _ => given.add(word, frames),
             }
         }
         given.checked().map(Some)
+    }
+
+    /// A frame, while the command takes more of them; else a file.
+    fn add(&mut self, word: &'w OsStr, frames: usize) {
+        let words = if self.frames.len() < frames { &mut self.frames } else { &mut self.files };
+        words.push(word);
     }
 
     fn name_output(&mut self, word: Option<&'w OsStr>) -> Result<(), String> {
@@ -84,4 +95,19 @@ impl<'w> Words<'w> {
 
 fn is_option(word: &OsStr) -> bool {
     word.as_encoded_bytes().starts_with(b"-") && word != "-"
+}
+
+/// A number below 0, among the words that read as options.
+fn is_negative(word: &OsStr) -> bool {
+    word.to_str().and_then(|text| text.strip_prefix('-')).is_some_and(has_digits_alone)
+}
+
+fn has_digits_alone(text: &str) -> bool {
+    text.bytes().all(|byte| byte.is_ascii_digit())
+}
+
+/// The frame that a word names, in decimal digits alone: Rust's own would take a sign too.
+pub fn frame(word: &OsStr) -> Result<u32, String> {
+    let number = word.to_str().filter(|text| has_digits_alone(text)).and_then(|digits| digits.parse().ok());
+    number.ok_or_else(|| format!("'{}' is no frame: frames are whole numbers from 0 to {}", shown(word), u32::MAX))
 }

@@ -172,6 +172,7 @@ fn takes_of_both_editions() {
     assert_eq!(run(&["join", "older", "newer", "-o", "-"]), joined[2]);
     assert_eq!(run(&["join", "newer", "older", "-o", "-"]), joined[2]);
     assert_eq!(run(&["season", "older", "other", "older"]), run(&["season", "newer", "other", "newer"]));
+    assert_eq!(run(&["excerpt", "1", "3", "older", "-o", "-"]), vmd::excerpt(&newer, 1, 3).unwrap());
     let done = vmd().current_dir(&folder.0).args(["tidy", "older", "-o", "-"]).output().unwrap();
     assert_eq!((status(&done), done.stdout), (0, newer));
 }
@@ -339,6 +340,177 @@ fn a_tidied_take_that_is_not_saved() {
     assert_eq!(fs::read(folder.join("out")).unwrap(), vmd::tidy(&take).unwrap().file);
 }
 
+// ---- excerpts
+
+/// Records in every section at frames around 10 and 20, and those of an excerpt from 10 to 20.
+fn around() -> [Vec<u8>; 2] {
+    let take = at_frames([vec![25, 9, 10], vec![20, 21], vec![15], vec![0, 4_294_967_295], vec![], vec![20, 10, 30]]);
+    [take, at_frames([vec![0], vec![10], vec![5], vec![], vec![], vec![10, 0]])]
+}
+
+/// From and to files and standard input and output, wherever the words may stand. As of an export nothing is told.
+#[test]
+fn cuts_an_excerpt() {
+    let folder = Folder::new("excerpt");
+    let [take, piece] = around();
+    folder.file("take", &take);
+    folder.file("-take", &take);
+    for words in [
+        &["excerpt", "10", "20", "take", "-o", "out"][..],
+        &["excerpt", "10", "20", "-o", "out", "--", "take"],
+        &["excerpt", "10", "20", "-o", "out", "--", "-take"],
+        &["excerpt", "-o", "out", "--", "10", "20", "take"],
+        &["excerpt", "0010", "00000000000020", "take", "-o", "out"],
+        &["excerpt", "--lenient", "10", "20", "take", "-o", "out"],
+        &["excerpt", "10", "--lenient", "20", "take", "-o", "out"],
+        &["excerpt", "10", "20", "take", "-o", "out", "--lenient"],
+    ] {
+        let done = vmd().current_dir(&folder.0).args(words).output().unwrap();
+        assert_eq!((status(&done), out(&done), err(&done)), (0, String::new(), String::new()), "{words:?}");
+        assert_eq!(fs::read(folder.join("out")).unwrap(), piece, "{words:?}");
+        fs::remove_file(folder.join("out")).unwrap();
+    }
+    let done = given(vmd().args(["excerpt", "10", "20", "-", "-o", "-"]), &take);
+    assert_eq!((status(&done), err(&done), &done.stdout), (0, String::new(), &piece));
+    let done = given(vmd().current_dir(&folder.0).args(["excerpt", "10", "20", "-", "-o", "out"]), &as_older(&take));
+    assert_eq!((status(&done), out(&done), err(&done)), (0, String::new(), String::new()));
+    assert_eq!(fs::read(folder.join("out")).unwrap(), piece);
+    let done = vmd().current_dir(&folder.0).args(["excerpt", "10", "20", "take", "-o", "/dev/stdout"]).output().unwrap();
+    assert_eq!((status(&done), err(&done), &done.stdout), (0, String::new(), &piece));
+    // over the take itself, and a piece of that again
+    for [first, last] in [[10, 20], [5, 10]] {
+        let expected = vmd::excerpt(&fs::read(folder.join("take")).unwrap(), first, last).unwrap();
+        let words = ["excerpt", &first.to_string(), &last.to_string(), "take", "-o", "take"];
+        let done = vmd().current_dir(&folder.0).args(words).output().unwrap();
+        assert_eq!((status(&done), out(&done), err(&done)), (0, String::new(), String::new()));
+        assert_eq!(fs::read(folder.join("take")).unwrap(), expected);
+    }
+    assert_eq!(folder.names(), ["-take", "out", "take"]);
+}
+
+/// All of a take is its export, and nothing of it its model name alone.
+#[test]
+fn excerpts_of_all_and_of_nothing() {
+    let [mut take, _] = around();
+    take[30..36].copy_from_slice(b"dancer");
+    let run = |words: [&str; 2]| given(vmd().arg("excerpt").args(words).args(["-", "-o", "-"]), &as_older(&take));
+    for words in [["0", "4294967295"], ["0", "04294967295"]] {
+        let done = run(words);
+        assert_eq!((status(&done), err(&done), &done.stdout), (0, String::new(), &take));
+    }
+    let done = run(["11", "14"]);
+    assert_eq!((status(&done), err(&done)), (0, String::new()));
+    assert_eq!(done.stdout, [&take[..50], &[0; 24]].concat());
+    let largest = run(["4294967295", "4294967295"]);
+    assert_eq!(largest.stdout[50..], at_frames([vec![], vec![], vec![], vec![0], vec![], vec![]])[50..]);
+}
+
+/// 18, before the file is read: whatever IN is, also where there is none, and with nothing written.
+#[test]
+fn an_excerpt_whose_first_frame_is_above_the_last() {
+    let folder = Folder::new("above");
+    let [take, _] = around();
+    folder.file("take", &take);
+    folder.file("empty", &[]);
+    folder.file("other", &[0x41; 60]);
+    folder.file("damaged", &counts(&[0, 0, 1]));
+    folder.file("out", b"old");
+    fs::create_dir(folder.join("folder")).unwrap();
+    for (from, [first, last]) in [
+        ("take", ["20", "10"]),
+        ("empty", ["1", "0"]),
+        ("other", ["4294967295", "4294967294"]),
+        ("damaged", ["3", "2"]),
+        ("none", ["3", "2"]),
+        ("folder", ["3", "2"]),
+        ("-", ["3", "2"]),
+    ] {
+        for to in ["out", "new", "take", "folder", "-"] {
+            for lenient in [&[][..], &["--lenient"]] {
+                let words = ["excerpt", first, last, from, "-o", to];
+                // a standard input that gives nothing: it is not read
+                let done = vmd_under("exec <&-").current_dir(&folder.0).args(words).args(lenient).output().unwrap();
+                let sentence = format!("vmd: frames {first} to {last}: refused 18: the first frame is above the last\n");
+                assert_eq!((status(&done), out(&done), err(&done)), (1, String::new(), sentence), "{words:?}");
+            }
+        }
+    }
+    assert_eq!(fs::read(folder.join("out")).unwrap(), b"old");
+    assert_eq!(fs::read(folder.join("take")).unwrap(), take);
+    assert_eq!(folder.names(), ["damaged", "empty", "folder", "other", "out", "take"]);
+}
+
+/// Whatever is no whole number of 32 bits in decimal digits is told in FIRST's place and in LAST's: also what is above the
+/// other frame, and where the file is none.
+#[test]
+fn words_that_are_no_frame() {
+    let folder = Folder::new("no-frame");
+    folder.file("out", b"old");
+    for word in [
+        "-1",
+        "-0",
+        "-4294967296",
+        "4294967296",
+        "18446744073709551616",
+        "99999999999999999999999",
+        "+5",
+        "5.0",
+        "1e3",
+        "0x10",
+        "1,000",
+        "1_000",
+        " 5",
+        "5 ",
+        "",
+        "-",
+        "first",
+        "٣",
+        "5\n",
+    ] {
+        for frames in [[word, "10"], ["0", word], [word, word]] {
+            for from in ["none", "-"] {
+                let words = ["excerpt", frames[0], frames[1], from, "-o", "out"];
+                let done = vmd_under("exec <&-").current_dir(&folder.0).args(words).output().unwrap();
+                let shown = word.replace('\n', "\\n");
+                let sentence = format!("'{shown}' is no frame: frames are whole numbers from 0 to 4294967295");
+                assert_eq!((status(&done), out(&done)), (2, String::new()), "{words:?}");
+                assert_eq!(err(&done), format!("vmd: excerpt: {sentence}; 'vmd --help' tells more\n"));
+            }
+        }
+    }
+    let done = vmd().arg("excerpt").arg(OsStr::from_bytes(b"\xff1")).args(["9", "take", "-o", "out"]).output().unwrap();
+    assert!(err(&done).starts_with(r"vmd: excerpt: '\xff1' is no frame: "), "{}", err(&done));
+    assert_eq!((status(&done), fs::read(folder.join("out")).unwrap()), (2, b"old".to_vec()));
+}
+
+/// What the file is refused for, and what cannot be read or written; nothing is written.
+#[test]
+fn an_excerpt_that_is_not_saved() {
+    let folder = Folder::new("excerpt-fails");
+    let [take, _] = around();
+    folder.file("take", &take);
+    folder.file("early", &take[..take.len() - 1]);
+    folder.file("other", &[0x41; 60]);
+    folder.file("out", b"old");
+    fs::create_dir(folder.join("folder")).unwrap();
+    for (words, expected, sentence) in [
+        (["early", "out"], 1, "early: refused 1: the file ends early"),
+        (["other", "out"], 1, "other: refused 2: the file is not a VMD take"),
+        (["early", "-"], 1, "early: refused 1: the file ends early"),
+        (["none", "out"], 2, "none: cannot read the file: No such file or directory (os error 2)"),
+        (["folder", "out"], 2, "folder: cannot read the file: it is a folder"),
+        (["take", "folder"], 2, "folder: cannot replace the file: it is a folder"),
+    ] {
+        let done = vmd().current_dir(&folder.0).args(["excerpt", "5", "5", words[0], "-o", words[1]]).output().unwrap();
+        assert_eq!((status(&done), out(&done), err(&done)), (expected, String::new(), format!("vmd: {sentence}\n")));
+    }
+    let piped = given(vmd().current_dir(&folder.0).args(["excerpt", "5", "5", "-", "-o", "out"]), &start());
+    assert_eq!((status(&piped), err(&piped)), (1, "vmd: standard input: refused 1: the file ends early\n".into()));
+    assert_eq!(fs::read(folder.join("out")).unwrap(), b"old");
+}
+
+// ---- seasons
+
 /// The figures of a season as they are printed: each section's total, smallest and largest, and the rest in their order.
 fn figures(takes: [u64; 2], sections: [[u64; 3]; 6], rest: [u64; 5]) -> String {
     let names = ["bones", "morphs", "cameras", "lights", "self-shadows", "properties"];
@@ -483,12 +655,14 @@ fn damaged() -> Vec<(Vec<u8>, &'static str, Vec<u8>)> {
 }
 
 /// Every command that saves, with the files `damaged` and `good`.
-const SAVING: [&[&str]; 5] = [
+const SAVING: [&[&str]; 7] = [
     &["export", "damaged"],
     &["export", "--older", "damaged"],
     &["join", "damaged", "good"],
     &["join", "good", "damaged"],
     &["tidy", "damaged"],
+    &["excerpt", "0", "4294967295", "damaged"],
+    &["excerpt", "2", "7", "damaged"],
 ];
 
 /// Each is named, with what is wrong, what reads it and what that loses; nothing is written.
@@ -649,6 +823,7 @@ fn refused_takes_are_named_and_nothing_is_written() {
         &["join", "good", "bad"],
         &["join", "bad", "good"],
         &["tidy", "bad"],
+        &["excerpt", "3", "30", "bad"],
     ] {
         let done = vmd().current_dir(&folder.0).args(words).args(["-o", "out"]).output().unwrap();
         assert_eq!(err(&done), "vmd: bad: refused 2: the file is not a VMD take\n", "{words:?}");
@@ -707,6 +882,24 @@ fn usage() {
         &["tidy", "-o", "b", "a"],
         &["tidy", "", "-o", "b"],
         &["tidy", "a", "-o", "b", "-o", "c"],
+        &["excerpt"],
+        &["excerpt", "1"],
+        &["excerpt", "1", "2"],
+        &["excerpt", "1", "2", "a"],
+        &["excerpt", "1", "2", "-o", "b"],
+        &["excerpt", "a", "-o", "b"],
+        &["excerpt", "a", "1", "2", "-o", "b"],
+        &["excerpt", "1", "a", "2", "-o", "b"],
+        &["excerpt", "1", "2", "a", "c", "-o", "b"],
+        &["excerpt", "1", "2", "a", "-o"],
+        &["excerpt", "-o", "b", "1", "2", "a"],
+        &["excerpt", "1", "-o", "b", "2", "a"],
+        &["excerpt", "1", "2", "-o", "b", "a"],
+        &["excerpt", "1", "2", "", "-o", "b"],
+        &["excerpt", "1", "2", "a", "-o", "b", "-o", "c"],
+        &["excerpt", "1", "2", "-3", "-o", "b"],
+        &["excerpt", "2", "1", "-", "-", "-o", "b"],
+        &["excerpt", "2", "1", "a"],
         &["season"],
         &["season", "--all"],
         &["season", "-", "-"],
@@ -734,6 +927,22 @@ fn usage() {
         (&["tidy", "a"], "tidy: no output is named: -o OUT names it"),
         (&["tidy", "-o", "b"], "tidy: one file is needed, IN"),
         (&["tidy", "a", "b", "-o", "c"], "tidy: one file is needed, IN"),
+        (&["excerpt", "-o", "b"], "excerpt: two frames and one file are needed, FIRST, LAST and IN"),
+        (&["excerpt", "1", "2", "-o", "b"], "excerpt: two frames and one file are needed, FIRST, LAST and IN"),
+        (&["excerpt", "a", "1", "-o", "b"], "excerpt: two frames and one file are needed, FIRST, LAST and IN"),
+        (&["excerpt", "1", "2", "a", "c", "-o", "b"], "excerpt: two frames and one file are needed, FIRST, LAST and IN"),
+        (&["excerpt", "2", "1", "a"], "excerpt: no output is named: -o OUT names it"),
+        (&["excerpt", "1", "-o", "b", "2", "a"], "excerpt: '2' follows -o OUT, which stands last"),
+        (&["excerpt", "-o", "b", "-1", "2", "a"], "excerpt: '-1' follows -o OUT, which stands last"),
+        (&["excerpt", "1", "2", "-3", "-o", "b"], "excerpt: there is no option '-3'"),
+        (&["excerpt", "-1x", "2", "a", "-o", "b"], "excerpt: there is no option '-1x'"),
+        (
+            &["excerpt", "1", "2", "a", "-o", "-3"],
+            "excerpt: no file is named by -o OUT: '-3' reads as an option, './-3' names a file",
+        ),
+        (&["excerpt", "--older", "1", "2", "a", "-o", "b"], "excerpt: there is no option '--older'"),
+        (&["excerpt", "-x", "1", "2", "a", "-o", "b"], "excerpt: there is no option '-x'"),
+        (&["tidy", "-3", "-o", "b"], "tidy: there is no option '-3'"),
     ] {
         let done = vmd().args(words).output().unwrap();
         assert_eq!((status(&done), out(&done)), (2, String::new()), "{words:?}");
@@ -749,12 +958,16 @@ fn usage() {
         "vmd join FIRST SECOND.. -o OUT",
         "vmd tidy IN -o OUT",
         "how many records were kept",
+        "vmd excerpt FIRST LAST IN -o OUT",
+        "both included",
+        "from 0 to 4294967295",
         "the first model name that is not empty",
         "vmd season FILE..",
-        "--lenient                       an option of 'export', 'join' and 'tidy'",
-        "section's records and every section after it, IK frames among them",
+        "--lenient                       an option of 'export', 'join', 'tidy' and 'excerpt'",
+        "every section after it, IK frames among them",
         "'list' and 'season' save nothing and always read so",
         "Exit status",
+        "1 where a take is refused, or FIRST is above LAST",
         "3 where OUT is the new file",
     ] {
         assert!(out(&help).contains(word));
@@ -771,7 +984,17 @@ fn a_forgotten_output_touches_nothing() {
     let names = ["1.vmd", "2.vmd", "3.vmd"];
     names.iter().zip(&takes).for_each(|(name, take)| drop(folder.file(name, take)));
     // the last: the shell's list stands where OUT was forgotten, and its first take must not be OUT
-    for words in [&["export"][..], &["export", "--older"], &["join"], &["join", "-o"], &["tidy"], &["tidy", "-o"]] {
+    for words in [
+        &["export"][..],
+        &["export", "--older"],
+        &["join"],
+        &["join", "-o"],
+        &["tidy"],
+        &["tidy", "-o"],
+        &["excerpt", "0", "9"],
+        &["excerpt", "0", "9", "-o"],
+        &["excerpt", "-o"],
+    ] {
         let takes = if words[0] == "join" { &names } else { &names[..2] };
         let done = vmd().current_dir(&folder.0).args(words).args(takes).output().unwrap();
         assert_eq!((status(&done), out(&done)), (2, String::new()), "{words:?}");
@@ -793,6 +1016,8 @@ fn help_after_a_command() {
         &["join", "--help", "-o", "a"],
         &["tidy", "--help"],
         &["tidy", "a", "-o", "b", "-h"],
+        &["excerpt", "--help"],
+        &["excerpt", "first", "-1", "--help"],
         &["season", "a", "--help"],
     ] {
         let done = vmd().args(words).output().unwrap();
@@ -910,6 +1135,7 @@ fn no_take_by_its_first_bytes() {
             &["export".as_ref(), from.as_ref()][..],
             &["join".as_ref(), good.as_ref(), from.as_ref()],
             &["tidy".as_ref(), from.as_ref()],
+            &["excerpt".as_ref(), "0".as_ref(), "9".as_ref(), from.as_ref()],
         ] {
             let done = run(&[words, &named].concat());
             assert_eq!((status(&done), err(&done)), (1, sentence.clone()));
@@ -927,6 +1153,7 @@ fn an_output_that_does_not_fit_memory() {
     for (limit, words) in [
         (45_000, vec!["join".as_ref(), path.as_os_str(), path.as_os_str()]),
         (20_000, vec!["tidy".as_ref(), path.as_os_str()]),
+        (20_000, vec!["excerpt".as_ref(), "0".as_ref(), "4294967295".as_ref(), path.as_os_str()]),
     ] {
         let done = vmd_under(&format!("ulimit -v {limit}")).args(words).arg("-o").arg(&to).output().unwrap();
         assert_eq!(status(&done), 2, "{done:?}");
@@ -1009,6 +1236,7 @@ fn a_standard_output_that_takes_nothing() {
         &["export", "--older", "take", "-o", "-"],
         &["join", "take", "take", "-o", "-"],
         &["tidy", "take", "-o", "-"],
+        &["excerpt", "0", "9", "take", "-o", "-"],
         &["list", "take"],
         &["season", "take", "take"],
         &["list", "--help"],

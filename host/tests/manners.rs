@@ -19,7 +19,11 @@ struct Answers {
     joined: [Vec<u8>; 2],
     tidied: Vec<u8>,
     sections: TidiedSections,
+    excerpt: Vec<u8>,
 }
+
+/// The first and the last frame of an excerpt: of the records of [`whole`] some are before it, and some after.
+const FRAMES: [u32; 2] = [21, 25];
 
 /// A take to join with.
 fn other() -> Vec<u8> {
@@ -48,6 +52,10 @@ fn answers(manner: Manner, file: &[u8]) -> Answers {
         assert_eq!(sections, tidied.sections);
         Ok(len)
     });
+    let excerpt = manner.excerpt(file, FRAMES[0], FRAMES[1]).unwrap();
+    expect_written(&excerpt, manner.excerpt_size(file, FRAMES[0], FRAMES[1]), |out| {
+        manner.excerpt_into(file, FRAMES[0], FRAMES[1], out)
+    });
     Answers {
         counts: [take.bones(), take.morphs(), take.cameras(), take.lights(), take.self_shadows(), take.properties()],
         ik_states: take.ik_states(),
@@ -58,6 +66,7 @@ fn answers(manner: Manner, file: &[u8]) -> Answers {
         joined,
         tidied: tidied.file,
         sections: tidied.sections,
+        excerpt,
     }
 }
 
@@ -112,7 +121,8 @@ fn expect(file: &[u8], damage: Damage) {
             assert_eq!(refused_by_all(Manner::Strict, file), expected);
             let lenient = answers(Manner::Lenient, file);
             assert_eq!(lenient, answers(Manner::Strict, &file[..left]));
-            for written in [&lenient.exported, &lenient.older, &lenient.joined[0], &lenient.joined[1], &lenient.tidied] {
+            let Answers { exported, older, joined: [first, second], tidied, excerpt, .. } = &lenient;
+            for written in [exported, older, first, second, tidied, excerpt] {
                 assert_eq!(Manner::Strict.export(written), Manner::Lenient.export(written));
                 assert!(Manner::Strict.open(written).is_ok());
             }
@@ -175,6 +185,7 @@ fn a_take_with_all_its_sections() {
     for manner in BOTH {
         let answers = answers(manner, &whole());
         assert_eq!((answers.counts, answers.ik_states, answers.frames), ([2, 1, 1, 1, 1, 1], 2, [20, 26]));
+        assert_eq!(answers.excerpt, at_frames([vec![0], vec![1], vec![2], vec![3], vec![4], vec![]]));
     }
 }
 
@@ -448,6 +459,13 @@ fn calls_without_a_named_manner() {
         assert_eq!(
             lent(|out| vmd::tidy_into(file, &mut [7; 99], out)),
             lent(|out| strict.tidy_into(file, &mut [7; 99], out))
+        );
+        let [first, last] = FRAMES;
+        assert_eq!(vmd::excerpt(file, first, last), strict.excerpt(file, first, last));
+        assert_eq!(vmd::excerpt_size(file, first, last), strict.excerpt_size(file, first, last));
+        assert_eq!(
+            lent(|out| vmd::excerpt_into(file, first, last, out)),
+            lent(|out| strict.excerpt_into(file, first, last, out))
         );
         assert_eq!(vmd::split_sizes(file), strict.split_sizes(file));
         let mut memory = [(); 2].map(|()| Take::open(whole()).unwrap().parts().unwrap());

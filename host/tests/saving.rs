@@ -243,6 +243,17 @@ fn a_tidied_take_whose_folder_is_not_flushed() {
     }
 }
 
+/// By the same calls of the system, but for those for memory; and where it is killed the take is the old one or the excerpt.
+#[test]
+fn an_excerpt_is_saved_as_an_export() {
+    let all = Saving { command: &["excerpt", "0", "4294967295"], ..Saving::of("all", 1000) };
+    let [export, all] = [Saving::of("exported", 1000), all].map(|saving| system_calls(&saving).map(without_memory));
+    assert_eq!(export, all);
+    let excerpt = Saving { command: &["excerpt", "200", "700"], ..Saving::of("excerpt", 1000) };
+    let new = vmd::excerpt(&excerpt.new, 200, 700).unwrap();
+    expect_whole_where_killed(&Saving { new, ..excerpt });
+}
+
 /// The new file is flushed, and dropped from memory, before it takes the name, and the folder is flushed after.
 #[test]
 fn flushed_before_and_after() {

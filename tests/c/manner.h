@@ -116,6 +116,20 @@ static inline uint32_t tidy_in(enum manner m, const uint8_t *file, size_t len, u
         : vmd_tidy_animation_lenient(file, len, scratch, scratch_len, out, out_len, written, kept, dropped);
 }
 
+static inline uint32_t excerpt_size_in(enum manner m, const uint8_t *file, size_t len, uint32_t first, uint32_t last,
+                                       uint64_t *size)
+{
+    return is_strict(m) ? vmd_excerpt_size(file, len, first, last, size)
+                        : vmd_excerpt_size_lenient(file, len, first, last, size);
+}
+
+static inline uint32_t excerpt_in(enum manner m, const uint8_t *file, size_t len, uint32_t first, uint32_t last,
+                                  uint8_t *out, size_t out_len, uint64_t *written)
+{
+    return is_strict(m) ? vmd_excerpt_animation(file, len, first, last, out, out_len, written)
+                        : vmd_excerpt_animation_lenient(file, len, first, last, out, out_len, written);
+}
+
 static inline uint32_t split_sizes_in(enum manner m, const uint8_t *file, size_t len, uint64_t sizes[4])
 {
     return is_strict(m) ? vmd_split_sizes(file, len, sizes) : vmd_split_sizes_lenient(file, len, sizes);

@@ -4,6 +4,7 @@
  */
 #include "check.h"
 #include "damaged.h"
+#include "excerpt.h"
 #include "expect.h"
 #include "manner.h"
 #include "open.h"
@@ -47,6 +48,13 @@ static void tidy(const struct sample *s)
     }
     expected = tidied_take(&means, &expected_bytes);
     try_tidy(&in, s->reads, &expected);
+}
+
+/* A frame of the crowded takes alone, and all frames. */
+static void excerpt(const struct sample *s)
+{
+    try_excerpt_told(&s->file, range(7, 7), s->reads, &s->means);
+    try_excerpt_told(&s->file, whole_range, s->reads, &s->means);
 }
 
 static void split(const struct sample *s)
@@ -115,6 +123,7 @@ static void every_call(const struct sample *s)
     expect_reading("refusal", try_opening(s->file.at, s->file.len, &o), s->reads);
     save(s);
     tidy(s);
+    excerpt(s);
     split(s);
     trial("joins with %s", s->name);
     joins(s);
@@ -202,6 +211,16 @@ static uint32_t ask_tidy(enum manner m, const struct asked *a)
                    ROOM_BYTES - 8 * (SLOTS + 200), a->room, NUMBERS_AT(a, 1), NUMBERS_AT(a, 4));
 }
 
+static uint32_t ask_excerpt_size(enum manner m, const struct asked *a)
+{
+    return excerpt_size_in(m, a->file, a->len, 1, 0x80000000, a->room);
+}
+
+static uint32_t ask_excerpt(enum manner m, const struct asked *a)
+{
+    return excerpt_in(m, a->file, a->len, 1, 0x80000000, OUT(a), a->room);
+}
+
 static uint32_t ask_split_sizes(enum manner m, const struct asked *a)
 {
     return split_sizes_in(m, a->file, a->len, a->room);
@@ -233,6 +252,8 @@ static const struct {
     {"join_animations, the second", ask_join_second},
     {"tidy_size", ask_tidy_size},
     {"tidy_animation", ask_tidy},
+    {"excerpt_size", ask_excerpt_size},
+    {"excerpt_animation", ask_excerpt},
     {"split_sizes", ask_split_sizes},
     {"split_animation_into_parts", ask_split},
 };

@@ -212,6 +212,8 @@ namespace model {
     X('i', StrictTidyLenient, "vmd_tidy_animation is lenient")                                                               \
     X('i', StrictSplitSizesLenient, "vmd_split_sizes is lenient")                                                            \
     X('i', StrictSplitLenient, "vmd_split_animation_into_parts is lenient")                                                  \
+    X('j', StrictExcerptSizeLenient, "vmd_excerpt_size is lenient")                                                          \
+    X('j', StrictExcerptLenient, "vmd_excerpt_animation is lenient")                                                         \
     X('i', LenientParseStrict, "vmd_parse_animation_lenient is strict")                                                      \
     X('i', LenientExportSizeStrict, "vmd_export_size_lenient is strict")                                                     \
     X('i', LenientExportStrict, "vmd_export_animation_lenient is strict")                                                    \
@@ -222,7 +224,78 @@ namespace model {
     X('i', LenientTidySizeStrict, "vmd_tidy_size_lenient is strict")                                                         \
     X('i', LenientTidyStrict, "vmd_tidy_animation_lenient is strict")                                                        \
     X('i', LenientSplitSizesStrict, "vmd_split_sizes_lenient is strict")                                                     \
-    X('i', LenientSplitStrict, "vmd_split_animation_into_parts_lenient is strict")
+    X('i', LenientSplitStrict, "vmd_split_animation_into_parts_lenient is strict")                                           \
+    X('j', LenientExcerptSizeStrict, "vmd_excerpt_size_lenient is strict")                                                   \
+    X('j', LenientExcerptStrict, "vmd_excerpt_animation_lenient is strict")                                                  \
+    X('j', ExcerptBonesUnmoved, "bones keep their frames")                                                                   \
+    X('j', ExcerptMorphsUnmoved, "morphs keep their frames")                                                                 \
+    X('j', ExcerptCamerasUnmoved, "cameras keep their frames")                                                               \
+    X('j', ExcerptLightsUnmoved, "lights keep their frames")                                                                 \
+    X('j', ExcerptShadowsUnmoved, "self-shadows keep their frames")                                                          \
+    X('j', ExcerptPropertiesUnmoved, "property frames keep their frames")                                                    \
+    X('j', ExcerptBonesAll, "all bones stay")                                                                                \
+    X('j', ExcerptMorphsAll, "all morphs stay")                                                                              \
+    X('j', ExcerptCamerasAll, "all cameras stay")                                                                            \
+    X('j', ExcerptLightsAll, "all lights stay")                                                                              \
+    X('j', ExcerptShadowsAll, "all self-shadows stay")                                                                       \
+    X('j', ExcerptPropertiesAll, "all property frames stay")                                                                 \
+    X('j', ExcerptBonesNoFirst, "bones of the first frame do not stay")                                                      \
+    X('j', ExcerptMorphsNoFirst, "morphs of the first frame do not stay")                                                    \
+    X('j', ExcerptCamerasNoFirst, "cameras of the first frame do not stay")                                                  \
+    X('j', ExcerptLightsNoFirst, "lights of the first frame do not stay")                                                    \
+    X('j', ExcerptShadowsNoFirst, "self-shadows of the first frame do not stay")                                             \
+    X('j', ExcerptPropertiesNoFirst, "property frames of the first frame do not stay")                                       \
+    X('j', ExcerptBonesNoLast, "bones of the last frame do not stay")                                                        \
+    X('j', ExcerptMorphsNoLast, "morphs of the last frame do not stay")                                                      \
+    X('j', ExcerptCamerasNoLast, "cameras of the last frame do not stay")                                                    \
+    X('j', ExcerptLightsNoLast, "lights of the last frame do not stay")                                                      \
+    X('j', ExcerptShadowsNoLast, "self-shadows of the last frame do not stay")                                               \
+    X('j', ExcerptPropertiesNoLast, "property frames of the last frame do not stay")                                         \
+    X('j', ExcerptSigned, "frames are compared as signed numbers")                                                           \
+    X('j', ExcerptLastFromFirst, "the last frame is counted from the first")                                                 \
+    X('j', ExcerptEndWraps, "the frame after a last one of 4,294,967,295 is 0, and nothing lies before it")                  \
+    X('j', ExcerptFromOne, "the first frame becomes 1")                                                                      \
+    X('j', ExcerptSmallestIsZero, "the smallest frame that stays in a section is subtracted")                                \
+    X('j', ExcerptSorted, "records are sorted by frame")                                                                     \
+    X('j', ExcerptOnePerFrame, "of a section only the last record of each frame stays")                                      \
+    X('j', ExcerptModelDropped, "the model name is not kept")                                                                \
+    X('j', ExcerptNoneNoModel, "where no record stays the model name is not kept")                                           \
+    X('j', ExcerptIksLost, "property frames that stay lose their IK states")                                                 \
+    X('j', ExcerptIksOfDropped, "IK states of a frame that goes are added to the frame that stays before it")                \
+    X('j', ExcerptIksByNumber, "property frame n that stays has the IK states of the file's frame n")                        \
+    X('j', ExcerptCountsOfFile, "the counts are the file's")                                                                 \
+    X('j', ExcerptPropertyCountOfFile, "the property count is the file's")                                                   \
+    X('j', ExcerptRawNames, "bone names keep their bytes after the first zero")                                              \
+    X('j', ExcerptRawFlags, "cameras keep their perspective byte")                                                           \
+    X('j', ExcerptOlderKept, "the excerpt of an older file is of the older edition")                                         \
+    X('j', ExcerptWholeCopied, "from 0 to 4,294,967,295 the file is copied as it is")                                        \
+    X('j', ExcerptAfterOne, "18 is tested after 1")                                                                          \
+    X('j', ExcerptAfterTwo, "18 is tested after 2")                                                                          \
+    X('j', ExcerptAfterStrict, "18 is tested after 16 and 17")                                                               \
+    X('j', ExcerptSizeAfterReading, "the size call tests 18 after the file is read")                                         \
+    X('j', ExcerptAfter13, "18 is tested after 13")                                                                          \
+    X('j', ExcerptEqualIs18, "18 for a first frame that is the last")                                                        \
+    X('j', ExcerptSigned18, "18 is tested with signed numbers")                                                              \
+    X('j', ExcerptNo18, "a first frame above the last gives an excerpt without records")                                     \
+    X('j', ExcerptSizeNo18, "a first frame above the last gives the size of an excerpt without records")                     \
+    X('j', ExcerptExchanged, "a first frame above the last is exchanged with it")                                            \
+    X('j', ExcerptExactIs13, "an output of just the excerpt's length is 13")                                                 \
+    X('j', ExcerptOneShort, "an output one byte short is written to")                                                        \
+    X('j', ExcerptExportIs13, "an output shorter than the export is 13")                                                     \
+    X('j', StrictExcerptAfter13, "excerpts test 16 and 17 after 13")                                                         \
+    X('j', ExcerptRestCleared, "the rest of the output is set to zero")                                                      \
+    X('j', ExcerptRestOfExport, "the rest of the output is set to zero up to the export's length")                           \
+    X('j', ExcerptWrittenOfExport, "written receives the export's length")                                                   \
+    X('j', ExcerptWrittenOn13, "written receives the length although the output is too short")                               \
+    X('j', ExcerptOutputOn13, "the output receives what it has room for although the answer is 13")                          \
+    X('j', ExcerptSizeOn18, "size receives 0 although the answer is 18")                                                     \
+    X('j', ExcerptSizeOfExport, "the size is the export's")                                                                  \
+    X('j', ExcerptSizeNoLast, "the size leaves out the last frame")                                                          \
+    X('j', ExcerptSizeNoIks, "the size leaves out IK states")                                                                \
+    X('j', ExcerptSizeAllIks, "the size has the IK states of frames that go")                                                \
+    X('j', ExcerptTwiceUnended, "an excerpt's excerpt ends beyond the first one's last frame")                               \
+    X('j', ExcerptTwiceWraps, "the frames of an excerpt's excerpt are added up in 32 bits")                                  \
+    X('j', ExcerptTwiceBeyond, "an excerpt's excerpt that begins beyond the first one's last frame has that frame's records")
 
 enum Alteration : int {
     AsWritten,

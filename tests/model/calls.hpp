@@ -25,7 +25,7 @@ struct PairsMet {
     u64 turned_down = 0; // for a pair without a character
 };
 
-constexpr std::size_t numbers_end = 18; // of answers
+constexpr std::size_t numbers_end = 19; // of answers
 
 struct Progress {
     u64 seed = 0, number = 0, calls = 0, takes = 0;
@@ -35,6 +35,7 @@ struct Progress {
     std::unordered_map<const char *, std::array<u64, numbers_end>> answers; // of calls that can refuse: how often each
     std::array<PairsMet, 5> pairs{};                                        // by Of
     std::map<std::string, u64> strict;                                      // see count_strict
+    std::vector<std::array<u64, 2>> cuts;                                   // of cut_cases, by edition: see count_cut
 };
 static Progress now;
 
@@ -302,6 +303,130 @@ static void begin_strict() {
         for (u64 second : {0, 1, 2, 16, 17})
             if (std::max(first, second) >= 16) now.strict[join_case(first, second)] = 0;
 }
+
+// ---- what excerpts meet, counted as the model sees it
+
+// An excerpt that was asked for, over the records that the lenient manner reads; there are none where the file is refused, or
+// the first frame is above the last.
+struct Cut {
+    Span s;
+    std::optional<Span> inner; // where it is cut again
+    int number;                // of the file in the strict manner
+    bool nothing, above;       // the file has no bytes; the first frame is above the last
+    std::array<u64, 6> stay{}, go{};
+    u64 records = 0, below = 0, over = 0;                        // all, those before the first frame, those after the last
+    bool at_first = false, at_last = false;                      // a record has that frame
+    bool before_first = false, after_last = false;               // a record has the frame beside it
+    bool zero_goes = false, end_stays = false, end_goes = false; // frames 0 and 4,294,967,295
+    bool again = false, falls = false;                           // the frames of two that stay, one after the other
+    bool iks_go_before = false;                                  // IK states that go, before some that stay
+    bool any() const { return records > 0; }
+};
+
+static void count_frames(const Words &frames, std::size_t section, Cut &cut) {
+    std::optional<u32> last_to_stay;
+    for (u32 frame : frames) {
+        const Span s = cut.s;
+        const bool stays = s.first <= frame && frame <= s.last;
+        (stays ? cut.stay : cut.go)[section]++;
+        cut.records++;
+        if (frame < s.first) cut.below++;
+        if (frame > s.last) cut.over++;
+        if (frame == s.first) cut.at_first = true;
+        if (frame == s.last) cut.at_last = true;
+        if (u64{frame} + 1 == s.first) cut.before_first = true;
+        if (frame == u64{s.last} + 1) cut.after_last = true;
+        if (frame == 0 && !stays) cut.zero_goes = true;
+        if (frame == 0xFFFFFFFF) (stays ? cut.end_stays : cut.end_goes) = true;
+        if (!stays) continue;
+        if (last_to_stay == frame) cut.again = true;
+        if (last_to_stay && *last_to_stay > frame) cut.falls = true;
+        last_to_stay = frame;
+    }
+}
+
+static Cut cut_of(const File &f, Span s, std::optional<Span> inner) {
+    Cut cut{s, inner, f.in(Manner::strict).refusal(), f.bytes.empty(), s.first > s.last};
+    const Reading &read = f.in(Manner::lenient);
+    if (cut.above || read.refusal()) return cut;
+    const std::vector<Words> all = frames(read.take());
+    for (std::size_t section = 0; section < 6; section++) count_frames(all[section], section, cut);
+    bool gone = false;
+    for (const Property &p : read.take().properties) {
+        const bool stays = s.first <= p.frame && p.frame <= s.last && !p.iks.empty();
+        if (stays && gone) cut.iks_go_before = true;
+        if (!stays && !p.iks.empty()) gone = true;
+    }
+    return cut;
+}
+
+template <std::size_t section> bool some_stay(const Cut &c) { return c.stay[section] > 0 && c.go[section] > 0; }
+static u64 moved(u32 by, const Cut &c) { return u64{c.s.first} + by; }
+
+// What a run has to meet, each in both editions where a file has one.
+struct CutCase {
+    const char *words;
+    bool both;
+    bool (*holds)(const Cut &);
+};
+static const CutCase cut_cases[] = {
+    {"18 of a file that is accepted", true, [](const Cut &c) { return c.above && c.number == 0; }},
+    {"18 of a file that is 1", true, [](const Cut &c) { return c.above && c.number == 1; }},
+    {"18 of a file that is 2", false, [](const Cut &c) { return c.above && c.number == 2; }},
+    {"18 of a file that is 16", true, [](const Cut &c) { return c.above && c.number == 16; }},
+    {"18 of a file that is 17", true, [](const Cut &c) { return c.above && c.number == 17; }},
+    {"18 of no bytes", false, [](const Cut &c) { return c.above && c.nothing; }},
+    {"18 by one frame", true, [](const Cut &c) { return c.above && c.s.first == c.s.last + 1; }},
+    {"18 of 4,294,967,295 and 0", true, [](const Cut &c) { return c.s == Span{0xFFFFFFFF, 0}; }},
+    {"all records stay", true, [](const Cut &c) { return c.any() && c.below + c.over == 0; }},
+    {"no record stays", true, [](const Cut &c) { return c.any() && c.below + c.over == c.records; }},
+    {"some bones stay", true, some_stay<bones>},
+    {"some morphs stay", true, some_stay<morphs>},
+    {"some cameras stay", true, some_stay<cameras>},
+    {"some lights stay", true, some_stay<lights>},
+    {"some self-shadows stay", true, some_stay<shadows>},
+    {"some property frames stay", true, some_stay<properties>},
+    {"records before it and after it", true, [](const Cut &c) { return c.below > 0 && c.over > 0; }},
+    {"before all records", true, [](const Cut &c) { return c.any() && c.over == c.records; }},
+    {"after all records", true, [](const Cut &c) { return c.any() && c.below == c.records; }},
+    {"between records, of which none stays", true,
+     [](const Cut &c) { return c.below > 0 && c.over > 0 && c.below + c.over == c.records; }},
+    {"from a record's frame on", true, [](const Cut &c) { return c.at_first && c.below > 0; }},
+    {"from the frame after a record's on", true, [](const Cut &c) { return c.before_first && c.below < c.records; }},
+    {"from no such frame on", true, [](const Cut &c) { return c.any() && !c.at_first && !c.before_first; }},
+    {"to a record's frame", true, [](const Cut &c) { return c.at_last && c.over > 0; }},
+    {"to the frame before a record's", true, [](const Cut &c) { return c.after_last && c.over < c.records; }},
+    {"to no such frame", true, [](const Cut &c) { return c.any() && !c.at_last && !c.after_last; }},
+    {"one frame, a record's", true, [](const Cut &c) { return c.s.first == c.s.last && c.at_first; }},
+    {"one frame, of no record", true, [](const Cut &c) { return c.any() && c.s.first == c.s.last && !c.at_first; }},
+    {"wider than the take", true,
+     [](const Cut &c) { return c.any() && c.below + c.over == 0 && !c.at_first && !c.at_last && c.s.first > 0; }},
+    {"from 0 to 4,294,967,295", true, [](const Cut &c) { return c.any() && c.s == Span{0, 0xFFFFFFFF}; }},
+    {"frame 4,294,967,295 becomes 0", true, [](const Cut &c) { return c.end_stays && c.s.first == 0xFFFFFFFF; }},
+    {"frame 4,294,967,295 stays, others go", true, [](const Cut &c) { return c.end_stays && c.below > 0; }},
+    {"frame 4,294,967,295 goes, others stay", true, [](const Cut &c) { return c.end_goes && c.over < c.records; }},
+    {"frame 0 goes, others stay", true, [](const Cut &c) { return c.zero_goes && c.below < c.records; }},
+    {"a frame that comes again stays", true, [](const Cut &c) { return c.again && c.s.first > 0; }},
+    {"frames that fall stay", true, [](const Cut &c) { return c.falls && c.s.first > 0; }},
+    {"IK states go before IK states that stay", true, [](const Cut &c) { return c.iks_go_before; }},
+    {"cut again, inside it", true,
+     [](const Cut &c) { return c.any() && c.inner && c.inner->first > 0 && moved(c.inner->last, c) < c.s.last; }},
+    {"cut again, beyond its last frame", true,
+     [](const Cut &c) { return c.over > 0 && c.inner && moved(c.inner->last, c) > c.s.last; }},
+    {"cut again, after its last frame", true,
+     [](const Cut &c) { return c.over > 0 && c.inner && moved(c.inner->first, c) > c.s.last; }},
+    {"cut again, beyond 4,294,967,295", true,
+     [](const Cut &c) { return c.any() && c.inner && moved(c.inner->last, c) > 0xFFFFFFFF; }},
+};
+
+static void count_cut(const File &f, Span s, std::optional<Span> inner = {}) {
+    if (alteration != AsWritten || now.cuts.empty()) return;
+    const Cut cut = cut_of(f, s, inner);
+    const bool older = read_header(f.bytes).width == 10;
+    for (std::size_t i = 0; i < now.cuts.size(); i++)
+        if (cut_cases[i].holds(cut)) now.cuts[i][older ? 1 : 0]++;
+}
+static void begin_cuts() { now.cuts.assign(std::size(cut_cases), {}); }
 
 // A file that is lent; it stays where it is for as long as the same file is lent.
 struct LentFile {
@@ -593,6 +718,29 @@ struct Calls {
         const u32 got = call(first.at(), first.n(), scratch.at, scratch.n(), out.at, out.n(), written.at, kept.at, dropped.at);
         answer(got, model::tidy_animation(f, m, scratch.want, out.want, written.want, kept.want, dropped.want));
         leave(got, scratch, out, written, kept, dropped);
+        return what_was_written(got);
+    }
+
+    // ---- excerpts
+
+    void excerpt_size(const File &f, Manner m, Span s) {
+        first.lend(f);
+        written.lend_junk(r, 1);
+        const auto call = VMD_TWIN(m, vmd_excerpt_size);
+        now.i = s.first, now.j = s.last;
+        const u32 got = call(first.at(), first.n(), s.first, s.last, written.at);
+        answer(got, model::excerpt_size(f, m, s, written.want));
+        leave(got, written);
+    }
+    Bytes excerpt_animation(const File &f, Manner m, Span s, std::size_t out_len) {
+        first.lend(f);
+        out.lend_junk(r, out_len);
+        written.lend_junk(r, 1);
+        const auto call = VMD_TWIN(m, vmd_excerpt_animation);
+        now.i = s.first, now.j = s.last;
+        const u32 got = call(first.at(), first.n(), s.first, s.last, out.at, out.n(), written.at);
+        answer(got, model::excerpt_animation(f, m, s, out.want, written.want));
+        leave(got, out, written);
         return what_was_written(got);
     }
 

@@ -1,5 +1,5 @@
-// Answers that stand in the papers themselves, without the model: the takes of document 01, the manners of request i), every
-// short name, and sections too long to be made otherwise.
+// Answers that stand in the papers themselves, without the model: the takes of document 01, the manners of request i), excerpts
+// of files written by hand, every short name, and sections too long to be made otherwise.
 #ifndef FIXED_HPP
 #define FIXED_HPP
 
@@ -86,6 +86,8 @@ inline void every_call(const char *what, u64 wanted, const Bytes &f, Manner m) {
     const auto tidy = strict ? vmd_tidy_animation : vmd_tidy_animation_lenient;
     same(tidy_size(file, n, nullptr, 0, &size, kept.data(), dropped.data()));
     same(tidy(file, n, nullptr, 0, out.data(), 100, &size, kept.data(), dropped.data()));
+    same((strict ? vmd_excerpt_size : vmd_excerpt_size_lenient)(file, n, 0, 0xFFFFFFFF, &size));
+    same((strict ? vmd_excerpt_animation : vmd_excerpt_animation_lenient)(file, n, 1, 1, out.data(), 100, &size));
     same((strict ? vmd_split_sizes : vmd_split_sizes_lenient)(file, n, sizes.data()));
     const auto split = strict ? vmd_split_animation_into_parts : vmd_split_animation_into_parts_lenient;
     same(split(file, n, nullptr, 0, nullptr, 0, nullptr, 0, nullptr, 0, nullptr, 0, nullptr, 0, nullptr, 0, nullptr, 0,
@@ -164,6 +166,131 @@ inline void pairs() {
     equal("pointer 10715 in a table", 0, one_name_built(last));
 }
 
+// ---- j) excerpts, in bytes
+
+inline void add(Bytes &f, std::initializer_list<u8> more) { f.insert(f.end(), more); }
+
+// Both calls of both manners write or measure just the wanted bytes, also where there is no room for more.
+inline void cut(const char *what, const Bytes &wanted, const Bytes &f, u32 first, u32 last) {
+    for (Manner m : manners) {
+        const bool strict = m == Manner::strict;
+        const auto size_call = strict ? vmd_excerpt_size : vmd_excerpt_size_lenient;
+        const auto call = strict ? vmd_excerpt_animation : vmd_excerpt_animation_lenient;
+        u64 size = 0;
+        equal(what, 0, size_call(f.data(), f.size(), first, last, &size));
+        equal(what, wanted.size(), size);
+        for (std::size_t room : {wanted.size(), wanted.size() + 1, f.size() + 100, wanted.size() - 1, std::size_t{0}}) {
+            const bool enough = room >= wanted.size();
+            Bytes out(room, 0xEE), after = enough ? wanted : Bytes();
+            after.resize(room, 0xEE);
+            u64 written = 7;
+            equal(what, enough ? 0 : 13, call(f.data(), f.size(), first, last, out.data(), room, &written));
+            equal(what, enough ? wanted.size() : 7, written);
+            for (std::size_t i = 0; i < room; i++) equal(what, after[i], out[i]);
+        }
+    }
+}
+
+// One record of each kind, zero but for its frame.
+inline Bytes one_of_each(u8 frame) {
+    Bytes f = start({});
+    f.resize(315, 0);
+    for (std::size_t count : {50, 165, 192, 257, 289, 302}) f[count] = 1;
+    for (std::size_t place : {69, 184, 196, 261, 293, 306}) f[place] = frame;
+    return f;
+}
+
+// "between them, both included, with the first subtracted"; header: "where no record stays, the file has 74 bytes"
+inline void excerpts_of_each() {
+    const Bytes f = one_of_each(10), none = start({0, 0, 0, 0, 0, 0});
+    cut("frame 10 of 10 to 10", one_of_each(0), f, 10, 10);
+    cut("frame 10 of 9 to 10", one_of_each(1), f, 9, 10);
+    cut("frame 10 of 10 to 11", one_of_each(0), f, 10, 11);
+    cut("frame 10 of 3 to 4,294,967,295", one_of_each(7), f, 3, 0xFFFFFFFF);
+    cut("frame 10 of 0 to 4,294,967,295", f, f, 0, 0xFFFFFFFF);
+    cut("frame 10 of 0 to 9", none, f, 0, 9);
+    cut("frame 10 of 11 to 4,294,967,295", none, f, 11, 0xFFFFFFFF);
+    cut("no records", none, start({0}), 5, 5);
+    // "the canonical file": bytes 26 to 29, a bone's name 0x41 0x00 0x42 and a perspective byte 2
+    Bytes loose = f, saved = f, moved = one_of_each(0);
+    loose[27] = 1, loose[54] = saved[54] = moved[54] = 0x41, loose[56] = 0x42, loose[256] = 2, saved[256] = moved[256] = 1;
+    cut("the export", saved, loose, 0, 0xFFFFFFFF);
+    cut("canonical", moved, loose, 10, 10);
+}
+
+// "Order and model name are kept.": self-shadows of frames 7, 5, 8, 6
+inline void excerpts_in_order() {
+    Bytes f = start({0, 0, 0, 0, 4}), piece = start({0, 0, 0, 0, 2}), last = start({0, 0, 0, 0, 1});
+    f[30] = piece[30] = last[30] = 'm';
+    add(f, {7, 0, 0, 0, 1, 0, 0, 0x80, 0x3F, 5, 0, 0, 0, 2, 0, 0, 0, 0x40});
+    add(f, {8, 0, 0, 0, 0, 0, 0, 0, 0x80, 6, 0, 0, 0, 9, 0xFF, 0xFE, 0xFD, 0xFC, 0, 0, 0, 0});
+    add(piece, {1, 0, 0, 0, 1, 0, 0, 0x80, 0x3F, 0, 0, 0, 0, 9, 0xFF, 0xFE, 0xFD, 0xFC, 0, 0, 0, 0});
+    add(last, {0, 0, 0, 0, 0, 0, 0, 0, 0x80, 0, 0, 0, 0});
+    cut("frames 7, 5, 8, 6 of 6 to 7", piece, f, 6, 7);
+    cut("frames 7, 5, 8, 6 of 8 to 8", last, f, 8, 8);
+}
+
+// An older file, with a model name that fills its field, and property frames 2, 4,294,967,295 and 2 with one, no and two IK
+// states; what is written is canonical.
+inline void excerpts_of_properties() {
+    static const char older_start[] = "Vocaloid Motion Data file\0wxyzabcdefghij", newer_start[] = "Vocaloid Motion Data 0002";
+    Bytes f(older_start, older_start + 40), twos(newer_start, newer_start + 25);
+    f.resize(60, 0), twos.resize(70, 0);
+    std::copy(f.begin() + 30, f.begin() + 40, twos.begin() + 30);
+    Bytes ends = twos, none = twos;
+    add(f, {3, 0, 0, 0});
+    add(f, {2, 0, 0, 0, 8, 1, 0, 0, 0, 'k', 0, 'k', 0, 0, 0, 0, 0, 0, 0, 0, 0, 0, 0, 0, 0, 0, 0, 0, 'k', 7});
+    add(f, {0xFF, 0xFF, 0xFF, 0xFF, 1, 0, 0, 0, 0});
+    add(f, {2, 0, 0, 0, 0, 2, 0, 0, 0, 'l', 0, 0, 0, 0, 0, 0, 0, 0, 0, 0, 0, 0, 0, 0, 0, 0, 0, 0, 0, 0});
+    add(f, {'m', 'n', 0, 0, 0, 0, 0, 0, 0, 0, 0, 0, 0, 0, 0, 0, 0, 0, 0, 0, 1});
+    add(twos, {2, 0, 0, 0});
+    add(twos, {0, 0, 0, 0, 1, 1, 0, 0, 0, 'k', 0, 0, 0, 0, 0, 0, 0, 0, 0, 0, 0, 0, 0, 0, 0, 0, 0, 0, 0, 1});
+    add(twos, {0, 0, 0, 0, 0, 2, 0, 0, 0, 'l', 0, 0, 0, 0, 0, 0, 0, 0, 0, 0, 0, 0, 0, 0, 0, 0, 0, 0, 0, 0});
+    add(twos, {'m', 'n', 0, 0, 0, 0, 0, 0, 0, 0, 0, 0, 0, 0, 0, 0, 0, 0, 0, 0, 1});
+    add(ends, {1, 0, 0, 0, 0, 0, 0, 0, 1, 0, 0, 0, 0});
+    add(none, {0, 0, 0, 0});
+    cut("property frames 2", twos, f, 2, 2);
+    cut("property frame 4,294,967,295", ends, f, 0xFFFFFFFF, 0xFFFFFFFF);
+    cut("no property frame", none, f, 3, 0xFFFFFFFE);
+}
+
+// "18 the first frame is above the last, tested before the file is read"; e) "leaves all that was lent unchanged"
+inline void excerpts_turned_down() {
+    Bytes over = start({0, 0, 0, 0, 0, 0});
+    over.push_back(0);
+    const std::vector<std::tuple<Bytes, u64, u64>> files = {{Bytes(), 1, 1},           {Bytes(29, 0x41), 1, 1},
+                                                            {Bytes(30, 0x41), 2, 2},   {start({}), 1, 1},
+                                                            {start({0, 0, 1}), 17, 0}, {over, 16, 0},
+                                                            {start({0}), 0, 0},        {one_of_each(3), 0, 0}};
+    const std::vector<Span> spans = {{1, 0}, {4, 3}, {0xFFFFFFFF, 0}, {0xFFFFFFFF, 0xFFFFFFFE}, {3, 3}};
+    for (const auto &[f, strict, lenient] : files) {
+        for (const auto &[first, last] : spans) {
+            const u8 *file = f.data();
+            const std::size_t n = f.size();
+            const bool above = first > last;
+            Bytes out(400, 0xEE);
+            u64 size = 7, written = 7;
+            equal("size", above ? 18 : strict, vmd_excerpt_size(file, n, first, last, &size));
+            equal("18", above ? 18 : strict, vmd_excerpt_animation(file, n, first, last, out.data(), 400, &written));
+            if (above || strict) equal("as it was", 7 + 7 + 0xEE, size + written + out[0]);
+            size = written = 7, out[0] = 0xEE;
+            equal("size, lenient", above ? 18 : lenient, vmd_excerpt_size_lenient(file, n, first, last, &size));
+            equal("18, lenient", above ? 18 : lenient,
+                  vmd_excerpt_animation_lenient(file, n, first, last, out.data(), 400, &written));
+            if (above || lenient) equal("as it was", 7 + 7 + 0xEE, size + written + out[0]);
+            const u64 before_13 = above ? 18 : strict ? strict : 13;
+            equal("before 13", before_13, vmd_excerpt_animation(file, n, first, last, nullptr, 0, &written));
+        }
+    }
+}
+
+inline void excerpts() {
+    excerpts_of_each();
+    excerpts_in_order();
+    excerpts_of_properties();
+    excerpts_turned_down();
+}
+
 inline void takes_to_try() {
     now.call = "takes to try";
     openings();
@@ -171,6 +298,7 @@ inline void takes_to_try() {
     exports();
     names();
     pairs();
+    excerpts();
 }
 
 // ---- every name of up to three bytes: every pair alone, behind any byte and before any
@@ -286,6 +414,23 @@ inline void huge_file() {
     equal("season largest", half, season_counts[VMD_SEASON_LARGEST + VMD_SELF_SHADOWS]);
     u64 scratch[4] = {1, 2, 3, 4};
     equal("tidy", 3, vmd_tidy_size(f.bytes, f.length, scratch, 4, &size, kept.data(), dropped.data()));
+}
+
+// j) All frames are 0, but for the last record's, which is 9.
+inline void huge_excerpt() {
+    const LongFile f(half);
+    f.bytes[f.length - 9] = 9;
+    u64 size = 7, written = 7;
+    u8 out[100] = {};
+    equal("excerpt size", 0, vmd_excerpt_size(f.bytes, f.length, 0, 8, &size));
+    equal("its size", 74 + 9 * (u64{half} - 1), size);
+    equal("excerpt", 13, vmd_excerpt_animation(f.bytes, f.length, 0, 8, out, 100, &written));
+    equal("written as it was", 7, written);
+    equal("excerpt of the last", 0, vmd_excerpt_animation(f.bytes, f.length, 8, 9, out, 100, &written));
+    equal("its size", 83, written);
+    equal("its count", 1, out[66]);
+    equal("its frame", 1, out[70]);
+    equal("18 of a long file", 18, vmd_excerpt_size(f.bytes, f.length, 1, 0, &size));
 }
 
 // "10; 11; .. 13" of building, with self-shadows or properties of which one more would pass 32 bits

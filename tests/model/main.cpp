@@ -45,6 +45,7 @@ struct Case {
         for (int n = 0; n < 2; n++) fetch_foreign();
         joining();
         tidying();
+        excerpting();
         building();
         names();
         season_limits();
@@ -60,6 +61,7 @@ struct Case {
         if (sometimes(4) && !b.in(m).refusal()) unit(m), join_reads_back(m);
         if (sometimes(4) && !b.in(m).refusal() && !d.in(m).refusal()) associativity(m);
         if (sometimes(4)) tidy_twice(m);
+        if (sometimes(2)) excerpt_laws(m);
     }
     bool sometimes(u64 n) { return big || r.one_in(n); }
     Manner some_manner() { return r.one_in(2) ? Manner::strict : Manner::lenient; }
@@ -76,13 +78,14 @@ struct Case {
         c.r = lent;
         sides = at;
         call(Manner::lenient);
-        law(c.left.answer < VMD_BYTES_OVER, "the lenient manner has no 16 and 17");
+        law(!of_strict(c.left.answer), "the lenient manner has no 16 and 17");
     }
+    static bool of_strict(u64 answer) { return answer == VMD_BYTES_OVER || answer == VMD_COUNT_OVERSIZED; }
     // i) "The Rust's reading is what the lenient manner gives; a strict answer that is no refusal equals it.": in the answer
     // and in every byte. So does every refusal but 16 and 17; these are of files that the lenient manner accepts.
     template <class F> void in_both(F call) {
         lend_both(call);
-        const bool turned = strict.answer == VMD_BYTES_OVER || strict.answer == VMD_COUNT_OVERSIZED;
+        const bool turned = of_strict(strict.answer);
         if (turned) law(c.left.answer != 1 && c.left.answer != 2, "16 and 17 are of files that the lenient manner accepts");
         else law(strict.answer == c.left.answer && strict.lent == c.left.lent, "a strict answer is the lenient one");
     }
@@ -112,6 +115,10 @@ struct Case {
         both([&](Manner m) { c.split_sizes(f, m); });
         const Parts lengths = buffer_lengths(none ? Parts() : parts(f, read), read.take(), false);
         both([&](Manner m) { c.split_animation(f, m, lengths); });
+        const Span s = some_span(frames_of(read.take()));
+        const std::size_t piece = some_length(none ? r.below(200) : excerpted(f, read, s).whole.size());
+        both([&](Manner m) { c.excerpt_size(f, m, s); });
+        both([&](Manner m) { c.excerpt_animation(f, m, s, piece); });
         return answers;
     }
     void answers_are(u64 number, const File &f, const char *which) {
@@ -145,6 +152,8 @@ struct Case {
         const u64 exact = canonical_size(read.take()), places = places_for(read.opening);
         const Bytes whole = c.export_animation(a, Manner::lenient, exact);
         law(c.export_animation(rest, Manner::strict, exact) == whole, "mended, it has the lenient manner's export");
+        const Span s = some_span(frames_of(read.take()));
+        law(cut_out(rest, Manner::strict, s) == cut_out(a, Manner::lenient, s), "mended, it has the lenient manner's excerpts");
         OpenSlots of_a = c.parse(a, Manner::lenient, places), of_rest = c.parse(rest, Manner::strict, places);
         for (u64 &place : of_a.places) place = std::min(place, n); // of sections that are missing or emptied
         law(of_a.counts == of_rest.counts && of_a.totals == of_rest.totals, "mended, it counts as in the lenient manner");
@@ -395,6 +404,8 @@ struct Case {
         OpenSlots of_a = c.parse(a, m, needed), of_newer = c.parse(newer, m, needed);
         law(c.export_animation(a, m, exact) == c.export_animation(newer, m, exact), "an older file reads as the widened one");
         if (read.refusal()) return;
+        const Span s = some_span(frames_of(read.take()));
+        law(cut_out(a, m, s) == cut_out(newer, m, s), "an older file has the widened one's excerpts");
         for (u64 &place : of_a.places) place += 10;
         for (u64 &place : of_a.scratch) place += 10;
         law(of_a.places == of_newer.places && of_a.scratch == of_newer.scratch, "places are those of the file as it is");
@@ -409,6 +420,8 @@ struct Case {
             const u64 exact = read.refusal() ? 80 : canonical_size(read.take());
             in_both([&](Manner m) { c.parse(cut, m, places_for(read.opening)); });
             in_both([&](Manner m) { c.export_animation(cut, m, exact); });
+            const Span s = some_span(frames_of(read.take()));
+            in_both([&](Manner m) { c.excerpt_animation(cut, m, s, exact); });
             c.model_name(cut);
         }
     }
@@ -454,6 +467,7 @@ struct Case {
         law(o.totals[VMD_TOTAL_SMALLEST_FRAME] == joined_smallest(x, y), "the smallest frame of a join");
         law(o.totals[VMD_TOTAL_LARGEST_FRAME] == std::max(x.largest, y.largest), "the largest of a join");
         tidy_of_join(m, joined);
+        excerpt_of_join(m, joined);
     }
 
     // "joining any of them, on either side, with an accepted take of no records and no model name gives the other's export"
@@ -482,6 +496,8 @@ struct Case {
         c.parse(twin, m, places_for(a.in(m).opening));
         law(!twin.in(m).refusal(), "a take in other bytes is accepted");
         law(c.export_animation(twin, m, whole.size()) == whole, "equal records have equal exports");
+        const Span s = some_span(frames_of(t));
+        law(cut_out(twin, m, s) == cut_out(a, m, s), "equal records have equal excerpts");
         same_season(t);
         Bytes other = a.bytes;
         other[r.below(other.size())] ^= static_cast<u8>(1 << r.below(8));
@@ -551,6 +567,116 @@ struct Case {
         const u64 exact = canonical_size(joined.in(m).take());
         const File of_tidied(c.join_animations(left, right, m, exact));
         law(tidied(joined, m) == tidied(of_tidied, m), "tidying a join");
+    }
+
+    // ---- excerpts
+
+    static Words frames_of(const Take &t) {
+        Words all;
+        for (const Words &section : frames(t)) extend(all, section);
+        return all;
+    }
+    // A frame of the take, the one before or after it, an end of all frames, or any.
+    u32 some_frame(const Words &own) {
+        static const Words ends = {0, 0xFFFFFFFF, 0, 0xFFFFFFFF, 1, 0xFFFFFFFE}, beside = {0, 0, 1, 0xFFFFFFFF};
+        if (own.empty() || r.one_in(5)) return r.one_in(4) ? r.word() >> r.below(32) : r.pick(ends);
+        return r.pick(own) + r.pick(beside);
+    }
+    Span some_span(const Words &own) {
+        const u32 one = some_frame(own), other = r.one_in(6) ? one : some_frame(own);
+        return {std::min(one, other), std::max(one, other)};
+    }
+    // The first frame above the last, often by one.
+    Span some_turned_span(const Words &own) {
+        const Span s = some_span(own);
+        if (r.one_in(8)) return {0xFFFFFFFF, 0};
+        if (s.first < s.last && !r.one_in(3)) return {s.last, s.first};
+        return s.last == 0xFFFFFFFF ? Span{s.last, s.last - 1} : Span{s.last + 1, s.last};
+    }
+
+    void excerpt_both(const File &f, Span s, std::size_t out_len) {
+        in_both([&](Manner m) { c.excerpt_animation(f, m, s, out_len); });
+    }
+    void excerpting() {
+        const Reading &read = a.in(Manner::lenient);
+        const Words own = frames_of(read.take());
+        const Span s = some_span(own), turned = some_turned_span(own);
+        const u64 whole = read.refusal() ? r.below(200) : canonical_size(read.take());
+        const u64 exact = read.refusal() ? r.below(200) : excerpted(a, read, s).whole.size();
+        in_both([&](Manner m) { c.excerpt_size(a, m, s); });
+        for (u64 n : {exact + 1 + r.below(40), exact, exact - std::min<u64>(exact, 1), u64{0}}) excerpt_both(a, s, n);
+        // header: "With a shorter out the records that stay are counted first"
+        excerpt_both(a, s, whole - std::min<u64>(whole, r.below(2)));
+        count_cut(a, s);
+        in_both([&](Manner m) { c.excerpt_size(a, m, turned); });
+        excerpt_both(a, turned, some_length(exact));
+        law(strict.answer == 18 && c.left.answer == 18, "18 whatever the file is");
+        count_cut(a, turned);
+        if (r.one_in(64)) of_no_bytes();
+    }
+    void of_no_bytes() {
+        const File nothing((Bytes()));
+        const Span s = some_span({}), turned = some_turned_span({});
+        for (Span asked : {s, turned}) {
+            in_both([&](Manner m) { c.excerpt_size(nothing, m, asked); });
+            excerpt_both(nothing, asked, r.below(80));
+            count_cut(nothing, asked);
+        }
+    }
+
+    // header: "an out of the export's length is never refused with 13"
+    Bytes cut_out(const File &f, Manner m, Span s) {
+        const Reading &read = f.in(m);
+        const u64 exact = read.refusal() ? 0 : excerpted(f, read, s).whole.size();
+        const Bytes piece = c.excerpt_animation(f, m, s, r.one_in(2) ? exact : canonical_size(read.take()));
+        law(c.left.answer != VMD_OUTPUT_TOO_SHORT, "an output of the excerpt's length, or of the export's, is long enough");
+        return piece;
+    }
+
+    // j) "An excerpt from 0 to 4,294,967,295 is the export."
+    void excerpt_laws(Manner m) {
+        const Take &t = a.in(m).take();
+        law(cut_out(a, m, {0, 0xFFFFFFFF}) == exported(a, m), "from 0 to 4,294,967,295 it is the export");
+        const Span s = some_span(frames_of(t));
+        const File piece(cut_out(a, m, s));
+        const OpenSlots slots = opened(piece);
+        law(moved_back(piece.in(m).take(), s) == left_of(t, s), "an excerpt has the records that lie between");
+        law(slots.totals[VMD_TOTAL_LARGEST_FRAME] <= s.last - s.first, "its frames");
+        law(exported(piece, m) == piece.bytes, "an excerpt is its own export");
+        law(piece.bytes.size() <= canonical_size(t), "an excerpt is never longer than the export");
+        excerpt_twice(m, s, piece);
+    }
+    // The definition from the other end: what was written, moved back, is the take without the records outside.
+    template <class F> static Take in_each_section(Take t, F change) {
+        change(t.bones), change(t.morphs), change(t.cameras), change(t.lights), change(t.shadows), change(t.properties);
+        return t;
+    }
+    static Take moved_back(const Take &piece, Span s) {
+        return in_each_section(piece, [s](auto &records) {
+            for (auto &record : records) record.frame += s.first;
+        });
+    }
+    static Take left_of(const Take &t, Span s) {
+        return in_each_section(t, [s](auto &records) {
+            const auto outside = [s](const auto &record) { return record.frame < s.first || record.frame > s.last; };
+            records.erase(std::remove_if(records.begin(), records.end(), outside), records.end());
+        });
+    }
+    void excerpt_twice(Manner m, Span s, const File &piece) {
+        const Span inner = some_span(frames_of(piece.in(m).take()));
+        const Bytes twice = cut_out(piece, m, inner);
+        const auto at_once = excerpt_of_excerpt(s, inner);
+        if (at_once) law(twice == cut_out(a, m, *at_once), "an excerpt's excerpt is one of the whole");
+        else law(twice.size() == 74 && File(twice).in(m).take().model == a.in(m).take().model, "or has no records");
+        count_cut(a, s, inner);
+    }
+
+    // j) "The excerpt of a join, where its counts fit 32 bits, equals the join of the excerpts."
+    void excerpt_of_join(Manner m, const File &joined) {
+        const Span s = some_span(frames_of(joined.in(m).take()));
+        const File left(cut_out(a, m, s)), right(cut_out(b, m, s));
+        const Bytes whole = cut_out(joined, m, s);
+        law(c.join_animations(left, right, m, whole.size()) == whole, "the excerpt of a join");
     }
 
     // ---- parts
@@ -817,27 +943,40 @@ static u64 print_strict() {
     return fewest;
 }
 
+// j) How often each case of an excerpt was met; gives the smallest number.
+static u64 print_cuts() {
+    u64 fewest = ~u64{0};
+    for (std::size_t i = 0; i < now.cuts.size(); i++) {
+        const auto [newer, older] = now.cuts[i];
+        std::printf("excerpts, %s: %llu, older: %llu\n", cut_cases[i].words, wide_number(newer), wide_number(older));
+        fewest = std::min({fewest, newer, cut_cases[i].both ? older : newer});
+    }
+    return fewest;
+}
+
 static int run(u64 count, u64 seed, u64 from) {
     Calls calls;
     Neighbours files;
     u64 found = 0;
     begin_strict();
+    begin_cuts();
     for (u64 n = from; n < from + count && found < 10; n++) {
         if (n % 256 == 0 || is_big(n) || is_big(n - 1)) alarm(300);
         if (run_case(calls, files, seed, n, true)) found++;
     }
     print_answers();
     const PairsMet fewest = print_pairs();
-    const u64 fewest_strict = print_strict();
-    const bool few_pairs = std::min(fewest.taken, fewest.turned_down) < count / 100, few_strict = fewest_strict < count / 500;
-    const bool too_few = !found && ((count >= 1000 && few_pairs) || (count >= 10000 && few_strict));
+    const u64 fewest_strict = print_strict(), fewest_cuts = print_cuts();
+    const bool few_pairs = std::min(fewest.taken, fewest.turned_down) < count / 100;
+    const bool few_cases = std::min(fewest_strict, fewest_cuts) < count / 500;
+    const bool too_few = !found && ((count >= 1000 && few_pairs) || (count >= 10000 && few_cases));
     std::printf("model: %llu takes (%llu accepted strict, %llu lenient), %llu calls (%llu strict, %llu lenient), %llu "
                 "disagreements; names with pairs in each place: at least %llu taken, %llu turned down; cases of the strict "
-                "manner: %zu, each at least %llu times%s\n",
+                "manner: %zu, each at least %llu times; of excerpts: %zu, each at least %llu times%s\n",
                 wide_number(now.takes), wide_number(now.accepted_in[0]), wide_number(now.accepted_in[1]),
                 wide_number(now.calls), wide_number(now.calls_in[0]), wide_number(now.calls_in[1]), wide_number(found),
                 wide_number(fewest.taken), wide_number(fewest.turned_down), now.strict.size(), wide_number(fewest_strict),
-                too_few ? ", TOO FEW" : "");
+                now.cuts.size(), wide_number(fewest_cuts), too_few ? ", TOO FEW" : "");
     return found || too_few ? 1 : 0;
 }
 
@@ -921,6 +1060,7 @@ static int every_short_name() {
 static int huge() {
     alarm(1800);
     fixed::huge_file();
+    fixed::huge_excerpt();
     fixed::huge_join();
     fixed::huge_oversized();
     fixed::huge_build();

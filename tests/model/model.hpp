@@ -1,4 +1,4 @@
-// A model of the file library, written from document 01 (the base) and requests a) to i) of document 02. Quoted sentences are
+// A model of the file library, written from document 01 (the base) and requests a) to j) of document 02. Quoted sentences are
 // theirs; "header:" marks those of the C interface. It works on lists, copies everything, and is made to be compared with the
 // papers, not to be fast. A function named as a call of the C interface takes the contents of every buffer lent and changes
 // them into the contents after the call; where it returns a refusal it has changed nothing. One of a call that reads a whole
@@ -440,13 +440,27 @@ struct Parts {
     Words morph_indices, morph_frames, weights;
 };
 
+// j) "Given a first and a last frame"
+struct Span {
+    u32 first, last;
+};
+inline bool operator==(const Span &a, const Span &b) { return a.first == b.first && a.last == b.last; }
+
+// The excerpt that was asked for last.
+struct Excerpt {
+    Span span;
+    Take take;
+    Bytes whole;
+};
+
 // What opening a file in one manner reads.
 struct Reading {
     Opening opening;
-    // worked out once, where they are asked for: see exported, tidied and parts
+    // worked out once, where they are asked for: see exported, tidied, parts and excerpted
     mutable std::optional<Bytes> its_export;
     mutable std::optional<Take> its_tidied;
     mutable std::optional<Parts> its_parts;
+    mutable std::optional<Excerpt> its_excerpt;
     const Take &take() const { return opening.take; }
     int refusal() const { return opening.stop.refusal; }
 };
@@ -462,15 +476,29 @@ struct File {
     }
     const Reading &in(Manner manner) const {
         auto &reading = readings[manner == Manner::strict ? 0 : 1];
-        if (!reading) reading = Reading{open(bytes, manner), {}, {}, {}};
+        if (!reading) reading = Reading{open(bytes, manner), {}, {}, {}, {}};
         return *reading;
     }
 };
 
 // The calls that read a whole take in either manner (header: those that have a twin). Altered models alone ask which it is.
-enum class Call { parse, export_size, exporting, older_size, older, join_size, join, tidy_size, tidy, split_sizes, split };
-static_assert(StrictSplitLenient - StrictParseLenient == static_cast<int>(Call::split), "an alteration for each call");
-static_assert(LenientSplitStrict - LenientParseStrict == static_cast<int>(Call::split), "and one for each twin");
+enum class Call {
+    parse,
+    export_size,
+    exporting,
+    older_size,
+    older,
+    join_size,
+    join,
+    tidy_size,
+    tidy,
+    split_sizes,
+    split,
+    excerpt_size,
+    excerpt
+};
+static_assert(StrictExcerptLenient - StrictParseLenient == static_cast<int>(Call::excerpt), "an alteration for each call");
+static_assert(LenientExcerptStrict - LenientParseStrict == static_cast<int>(Call::excerpt), "and one for each twin");
 
 // i) "Every call that reads a whole take without a named manner, those of earlier requests included, now turns such files
 // down."
@@ -1051,6 +1079,198 @@ inline int tidy_animation(const File &file, Manner manner, Longs &scratch, Bytes
     if (const int refusal = save(canonical(tidied(f)), out, written)) return refusal;
     tidy_done(f.take(), tidied(f), scratch, kept, dropped);
     return 0;
+}
+
+// ---- excerpts
+
+// An error of one section: there is one for each, in their order.
+inline bool altered_in(int section, Alteration of_bones) { return alteration == of_bones + section; }
+static_assert(ExcerptPropertiesUnmoved == ExcerptBonesUnmoved + static_cast<int>(properties), "one for each section");
+static_assert(ExcerptPropertiesAll == ExcerptBonesAll + static_cast<int>(properties), "one for each section");
+static_assert(ExcerptPropertiesNoFirst == ExcerptBonesNoFirst + static_cast<int>(properties), "one for each section");
+static_assert(ExcerptPropertiesNoLast == ExcerptBonesNoLast + static_cast<int>(properties), "one for each section");
+
+// j) "whose frame lies between them, both included"
+inline bool stays(u32 frame, int section, Span s) {
+    const auto turned = [](u32 n) { return n ^ 0x80000000; };
+    if (altered_in(section, ExcerptBonesAll)) return true;
+    if (altered_in(section, ExcerptBonesNoFirst) && frame == s.first) return false;
+    if (altered_in(section, ExcerptBonesNoLast) && frame == s.last) return false;
+    if (altered(ExcerptSigned)) return turned(s.first) <= turned(frame) && turned(frame) <= turned(s.last);
+    if (altered(ExcerptLastFromFirst)) return s.first <= frame && frame - s.first <= s.last;
+    if (altered(ExcerptEndWraps)) return s.first <= frame && frame < s.last + 1;
+    return s.first <= frame && frame <= s.last;
+}
+
+// For altered models alone.
+template <class Record> void alter_piece(std::vector<Record> &piece) {
+    const auto before = [](const Record &a, const Record &b) { return a.frame < b.frame; };
+    if (altered(ExcerptSorted)) std::stable_sort(piece.begin(), piece.end(), before);
+    for (std::size_t i = 0; altered(ExcerptOnePerFrame) && i < piece.size();) {
+        const auto same = [&](const Record &r) { return r.frame == piece[i].frame; };
+        const auto from = piece.begin() + static_cast<std::ptrdiff_t>(i);
+        if (std::any_of(from + 1, piece.end(), same)) piece.erase(from);
+        else i++;
+    }
+}
+template <class Record> u32 subtracted(const std::vector<Record> &piece, int section, Span s) {
+    if (altered_in(section, ExcerptBonesUnmoved)) return 0;
+    if (altered(ExcerptFromOne)) return s.first - 1;
+    if (!altered(ExcerptSmallestIsZero)) return s.first;
+    u32 smallest = 0xFFFFFFFF;
+    for (const Record &r : piece) smallest = std::min(smallest, r.frame);
+    return smallest;
+}
+
+// j) "with the first subtracted from each frame. Order .. kept."
+template <class Record> std::vector<Record> excerpt(const std::vector<Record> &records, int section, Span s) {
+    std::vector<Record> piece;
+    for (const Record &r : records)
+        if (stays(r.frame, section, s)) piece.push_back(r);
+    alter_piece(piece);
+    const u32 less = subtracted(piece, section, s);
+    for (Record &r : piece) r.frame -= less;
+    return piece;
+}
+
+// A property record has its IK states, and stays or goes with them.
+inline std::vector<Property> excerpt_properties(const std::vector<Property> &records, Span s) {
+    std::vector<Property> piece = excerpt(records, properties, s);
+    for (std::size_t n = 0; n < piece.size(); n++) {
+        if (altered(ExcerptIksLost)) piece[n].iks.clear();
+        if (altered(ExcerptIksByNumber)) piece[n].iks = records[n].iks;
+    }
+    if (!altered(ExcerptIksOfDropped)) return piece;
+    std::size_t before = 0;
+    for (const Property &p : records) {
+        if (stays(p.frame, properties, s)) before++;
+        else if (before > 0) extend(piece[before - 1].iks, p.iks);
+    }
+    return piece;
+}
+
+// j) "Order and model name are kept."
+inline Take excerpt(const Take &t, Span s) {
+    Take piece{t.model,
+               excerpt(t.bones, bones, s),
+               excerpt(t.morphs, morphs, s),
+               excerpt(t.cameras, cameras, s),
+               excerpt(t.lights, lights, s),
+               excerpt(t.shadows, shadows, s),
+               excerpt_properties(t.properties, s)};
+    if (altered(ExcerptModelDropped) || (altered(ExcerptNoneNoModel) && no_records(piece))) piece.model.clear();
+    return piece;
+}
+
+// Errors of the bytes, for altered models alone.
+inline void alter_excerpt(const Bytes &f, const Opening &o, const Take &piece, Span s, Bytes &whole) {
+    const auto copy = [&](u64 from, u64 to, u64 n) {
+        std::copy_n(f.begin() + static_cast<std::ptrdiff_t>(from), n, whole.begin() + static_cast<std::ptrdiff_t>(to));
+    };
+    const auto counts = section_counts(piece);
+    u64 at = 50;
+    for (int section = bones; section <= properties; section++) {
+        const bool of_file = altered(ExcerptCountsOfFile) || (altered(ExcerptPropertyCountOfFile) && section == properties);
+        for (int i = 0; of_file && i < 4; i++) whole[at + i] = static_cast<u8>(o.counts[section] >> (8 * i));
+        at += 4;
+        for (u64 i = 0, to = at; section == bones && altered(ExcerptRawNames) && i < o.counts[bones]; i++)
+            if (stays(o.take.bones[i].frame, bones, s)) copy(o.places[bones] + 111 * i, to, 15), to += 111;
+        for (u64 i = 0, to = at; section == cameras && altered(ExcerptRawFlags) && i < o.counts[cameras]; i++)
+            if (stays(o.take.cameras[i].frame, cameras, s)) copy(o.places[cameras] + 61 * i + 60, to + 60, 1), to += 61;
+        at += counts[section] * record_size[section];
+    }
+}
+
+// j) "an excerpt is the canonical file of the records"
+inline Bytes excerpt_file(const File &file, const Reading &f, const Take &piece, Span s) {
+    if (altered(ExcerptOlderKept) && read_header(file.bytes).width == 10) return canonical_older(piece);
+    if (altered(ExcerptWholeCopied) && s.first == 0 && s.last == 0xFFFFFFFF) return file.bytes;
+    Bytes whole = canonical(piece);
+    if (alteration != AsWritten) alter_excerpt(file.bytes, f.opening, piece, s, whole);
+    return whole;
+}
+inline const Excerpt &excerpted(const File &file, const Reading &f, Span s) {
+    if (!f.its_excerpt || !(f.its_excerpt->span == s)) {
+        Take piece = excerpt(f.take(), s);
+        Bytes whole = excerpt_file(file, f, piece, s);
+        f.its_excerpt = Excerpt{s, std::move(piece), std::move(whole)};
+    }
+    return *f.its_excerpt;
+}
+
+// j) "18 the first frame is above the last"
+inline bool first_above_last(Span s) {
+    if (altered(ExcerptEqualIs18)) return s.first >= s.last;
+    if (altered(ExcerptSigned18)) return (s.first ^ 0x80000000) > (s.last ^ 0x80000000);
+    return s.first > s.last;
+}
+
+// j) 18 is "tested before the file is read"
+inline int excerpt_refusal(const Reading &f, Call call, Span s) {
+    const int number = f.refusal();
+    const bool size = call == Call::excerpt_size;
+    const bool read_first = (altered(ExcerptAfterOne) && number == 1) || (altered(ExcerptAfterTwo) && number == 2) ||
+                            (altered(ExcerptAfterStrict) && number >= 16) ||
+                            (altered(ExcerptSizeAfterReading) && size && number != 0);
+    const bool never = (altered(ExcerptNo18) && !size) || (altered(ExcerptSizeNo18) && size) || altered(ExcerptExchanged);
+    return first_above_last(s) && !read_first && !never ? 18 : number;
+}
+inline Span excerpt_span(Span s) { return altered(ExcerptExchanged) && s.first > s.last ? Span{s.last, s.first} : s; }
+
+inline u64 excerpt_length(const Reading &f, const Take &piece, Span s) {
+    if (altered(ExcerptSizeOfExport)) return canonical_size(f.take());
+    if (altered(ExcerptSizeNoLast)) return s.last == 0 ? 74 : canonical_size(excerpt(f.take(), {s.first, s.last - 1}));
+    u64 iks = 0;
+    for (const Property &p : piece.properties) iks += p.iks.size();
+    if (altered(ExcerptSizeNoIks)) return canonical_size(piece) - 21 * iks;
+    if (altered(ExcerptSizeAllIks)) return canonical_size(piece) + 21 * (f.opening.iks - iks);
+    return canonical_size(piece);
+}
+inline int excerpt_size(const File &file, Manner manner, Span asked, Longs &size) {
+    const Reading &f = read(file, Call::excerpt_size, manner);
+    const Span s = excerpt_span(asked);
+    const int refusal = excerpt_refusal(f, Call::excerpt_size, s);
+    if (altered(ExcerptSizeOn18) && refusal == 18) size = {0};
+    if (refusal) return refusal;
+    size = {excerpt_length(f, excerpted(file, f, s).take, s)};
+    return 0;
+}
+
+inline int save_excerpt(const Bytes &whole, u64 export_length, Bytes &out, Longs &written) {
+    const u64 exact = whole.size(), n = out.size();
+    const bool one_short = altered(ExcerptOneShort) && n + 1 == exact;
+    const auto from = [&](u64 at) { return out.begin() + static_cast<std::ptrdiff_t>(at); };
+    if (altered(ExcerptExactIs13) && n == exact) return 13;
+    if (altered(ExcerptExportIs13) && n < export_length) return 13;
+    if (altered(ExcerptWrittenOn13) || one_short) written = {exact};
+    if (altered(ExcerptOutputOn13) || one_short) std::copy_n(whole.begin(), std::min(n, exact), out.begin());
+    if (one_short) return 0;
+    if (const int refusal = save(whole, out, written)) return refusal;
+    if (altered(ExcerptRestCleared)) std::fill(from(exact), out.end(), u8{0});
+    if (altered(ExcerptRestOfExport) && exact < export_length) std::fill(from(exact), from(std::min(n, export_length)), u8{0});
+    if (altered(ExcerptWrittenOfExport)) written = {export_length};
+    return 0;
+}
+// e) 13 "from here on means an output shorter than the file to be written"; it is tested last, as everywhere
+inline int excerpt_animation(const File &file, Manner manner, Span asked, Bytes &out, Longs &written) {
+    const Reading &f = read(file, Call::excerpt, manner);
+    const Span s = excerpt_span(asked);
+    const Reading *on = late(StrictExcerptAfter13, file, manner);
+    if (on && !first_above_last(s) && out.size() < canonical_size(excerpt(on->take(), s))) return 13;
+    if (altered(ExcerptAfter13) && !f.refusal() && out.size() < 74) return 13;
+    if (const int refusal = excerpt_refusal(f, Call::excerpt, s)) return refusal;
+    return save_excerpt(excerpted(file, f, s).whole, canonical_size(f.take()), out, written);
+}
+
+// The excerpt of the whole that an excerpt's excerpt is: a frame stays in both where it lies between those of s and, less the
+// first of them, between those of inner. Nothing where there is no such frame, and so no record.
+inline std::optional<Span> excerpt_of_excerpt(Span s, Span inner) {
+    u64 first = u64{s.first} + inner.first, last = u64{s.first} + inner.last;
+    if (altered(ExcerptTwiceWraps)) first = static_cast<u32>(first), last = static_cast<u32>(last);
+    if (altered(ExcerptTwiceBeyond)) first = std::min<u64>(first, s.last);
+    if (first > s.last) return {};
+    if (!altered(ExcerptTwiceUnended)) last = std::min<u64>(last, s.last);
+    return Span{static_cast<u32>(first), static_cast<u32>(std::min<u64>(last, 0xFFFFFFFF))};
 }
 
 // ---- parts: what the builder takes, and what a take yields

@@ -107,7 +107,8 @@ inline u32 some_float(Rng &r, bool clean) {
     return clean && !((~bits) & 0x7F800000) ? bits & 0x807FFFFF : bits;
 }
 
-// What the records of one take are drawn from: few names and few frames, so that tracks collide.
+// What the records of one take are drawn from: few names and few frames, so that tracks collide, and frames side by side or at
+// the ends, so that an excerpt can begin and end at, beside and between them.
 struct Pool {
     bool clean; // all of it passes the builder, but for one name now and then
     std::vector<Name> names, ik_names;
@@ -115,13 +116,13 @@ struct Pool {
 };
 
 inline Pool some_pool(Rng &r) {
-    static const Words ends = {0, 1, 0xFFFFFFFF, 0x7FFFFFFF, 0x80000000};
+    static const Words ends = {0, 0, 1, 0xFFFFFFFF, 0xFFFFFFFF, 0xFFFFFFFE, 0x7FFFFFFF, 0x80000000};
     Pool p;
     p.clean = r.one_in(2);
     for (u64 n = 1 + r.below(5); p.names.size() < n;) p.names.push_back(some_name(r, 15, p.clean));
     for (u64 n = 1 + r.below(3); p.ik_names.size() < n;) p.ik_names.push_back(some_name(r, 20, p.clean));
     const u32 low = r.one_in(3) ? 0 : r.word() % 100;
-    for (u64 n = 1 + r.below(6); p.frames.size() < n;) p.frames.push_back(r.one_in(6) ? r.pick(ends) : low + r.word() % 8);
+    for (u64 n = 1 + r.below(6); p.frames.size() < n;) p.frames.push_back(r.one_in(5) ? r.pick(ends) : low + r.word() % 8);
     return p;
 }
 
@@ -523,10 +524,11 @@ inline bool is_big(u64 n) { return n % big_every == 1000; }
 
 inline Bytes derived(Rng &r) {
     const Take first = some_take(r), second = some_take(r);
-    switch (r.below(4)) {
+    switch (r.below(5)) {
     case 0: return canonical(first);
     case 1: return canonical(join(first, second));
     case 2: return canonical(tidy(join(first, second)));
+    case 3: return canonical(excerpt(join(first, second), {r.word() % 8, r.one_in(2) ? 0xFFFFFFFF : 8 + r.word() % 100}));
     default: return first.model.size() <= 10 ? canonical_older(first) : canonical(tidy(first));
     }
 }

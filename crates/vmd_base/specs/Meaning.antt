@@ -1,10 +1,10 @@
 -- What the types of the code mean in the terms of the format, by cases. Definitions only.
-use Rattle.vmd_format.specs.Refusal.{Refusal, file-ends-early, magic-differs, scratch-too-short, outside, parts-not-whole, name-unfit, name-not-good, not-finite, self-shadow-unfit, columns-disagree, count-too-large, name-index-too-large, output-too-short, parts-do-not-fit, model-name-too-long, bytes-over, count-oversized}
+use Rattle.vmd_format.specs.Refusal.{Refusal, file-ends-early, magic-differs, scratch-too-short, outside, parts-not-whole, name-unfit, name-not-good, not-finite, self-shadow-unfit, columns-disagree, count-too-large, name-index-too-large, output-too-short, parts-do-not-fit, model-name-too-long, bytes-over, count-oversized, first-above-last}
 use Rattle.vmd_format.specs.Read.{Manner, strict, lenient}
 use Rattle.vmd_format.specs.Take.{Edition, newer, older}
 use Rattle.vmd_format.specs.Opening.{Extent}
 use Rattle.vmd_base.specs.declared.VmdRefusal.{VmdRefusal}
-use Rattle.vmd_base.specs.declared.VmdRefusal.the-variants.{FileEndsEarly, MagicDiffers, ScratchTooShort, Outside, PartsNotWhole, NameUnfit, NameNotGood, NotFinite, SelfShadowUnfit, ColumnsDisagree, CountTooLarge, NameIndexTooLarge, OutputTooShort, PartsDoNotFit, ModelNameTooLong, BytesOver, CountOversized}
+use Rattle.vmd_base.specs.declared.VmdRefusal.the-variants.{FileEndsEarly, MagicDiffers, ScratchTooShort, Outside, PartsNotWhole, NameUnfit, NameNotGood, NotFinite, SelfShadowUnfit, ColumnsDisagree, CountTooLarge, NameIndexTooLarge, OutputTooShort, PartsDoNotFit, ModelNameTooLong, BytesOver, CountOversized, FirstAboveLast}
 use Rattle.vmd_base.specs.declared.VmdEdition.{VmdEdition}
 use Rattle.vmd_base.specs.declared.VmdEdition.the-variants.{Newer, Older}
 use Rattle.vmd_base.specs.declared.VmdManner.{VmdManner}
@@ -29,6 +29,7 @@ refusal-of PartsDoNotFit = parts-do-not-fit
 refusal-of ModelNameTooLong = model-name-too-long
 refusal-of BytesOver = bytes-over
 refusal-of CountOversized = count-oversized
+refusal-of FirstAboveLast = first-above-last
 
 abbrev pub edition-is : VmdEdition → Edition
 edition-is Newer = newer

@@ -48,6 +48,7 @@ pub enum VmdRefusal {
     ModelNameTooLong,
     BytesOver,
     CountOversized,
+    FirstAboveLast,
 }
 
 impl VmdRefusal {
@@ -72,6 +73,7 @@ impl VmdRefusal {
             VmdRefusal::ModelNameTooLong => 15,
             VmdRefusal::BytesOver => 16,
             VmdRefusal::CountOversized => 17,
+            VmdRefusal::FirstAboveLast => 18,
         }
     }
 }

@@ -1,6 +1,6 @@
-// The library for C, thin over the calls of vmd_reader, vmd_export, vmd_names, vmd_parts, vmd_split, vmd_season and vmd_tidy, and
-// for its slots over vmd_slots. include/vmd.h says how C calls it. Every function states what it returns, and every slot and
-// buffer at exit, by equations with definitions.
+// The library for C, thin over the calls of vmd_reader, vmd_export, vmd_names, vmd_parts, vmd_split, vmd_season, vmd_tidy and
+// vmd_excerpt, and for its slots over vmd_slots. include/vmd.h says how C calls it. Every function states what it returns, and
+// every slot and buffer at exit, by equations with definitions.
 use vmd_base::VmdManner;
 use vmd_reader::VmdBoneAnswer;
 use vmd_reader::VmdCameraAnswer;
@@ -33,6 +33,7 @@ ghost use Rattle.vmd_checks.specs.Meaning.{parts-of};
 ghost use Rattle.vmd_slots.specs.Meaning.{status, slot-after, counts-of, places-of, totals-of, scan-at, bone-words, morph-words, camera-words, light-values, light-words, self-shadow-words, property-words, part-words, joined-words, size-words, count-words, season-counts, season-figures, season-at, mean-words};
 ghost use Rattle.vmd_take_parts.specs.Split.{split, split-answer, split-sizes, parts-left, buffers};
 ghost use Rattle.vmd_tidy.specs.Tidied.{tidied-answer, tidied-output, tidied-scratch, size-answer, size-scratch};
+ghost use Rattle.vmd_excerpt.specs.Excerpted.{excerpted-answer, excerpted-output, excerpt-size};
 ghost use Rattle.vmd_season.specs.Season.{no-takes, with-file, mean};
 
 // ---- opening
@@ -801,6 +802,93 @@ pub extern "C" fn vmd_tidy_animation_lenient(
         kept,
         dropped,
     )
+}
+
+// ---- excerpts
+
+fn excerpt_size_in(manner: VmdManner, file: &[u8], first: u32, last: u32, size: &mut u64) -> u32
+    ensures { λ r. ⌜ (let answer = excerpt-size (manner-of manner) first last (now (file .entry)) in
+        (r ≡ status answer)
+        × (now (size .exit) ≡ slot-after (now (size .entry)) (λ n. n) answer)) ⌝ }
+{
+    vmd_slots::report_written(
+        vmd_excerpt::excerpt_file_size(file, manner, first, last),
+        size,
+    )
+}
+
+#[no_mangle]
+pub extern "C" fn vmd_excerpt_size(file: &[u8], first: u32, last: u32, size: &mut u64) -> u32
+    ensures { λ r. ⌜ (let answer = excerpt-size strict first last (now (file .entry)) in
+        (r ≡ status answer)
+        × (now (size .exit) ≡ slot-after (now (size .entry)) (λ n. n) answer)) ⌝ }
+{
+    excerpt_size_in(VmdManner::Strict, file, first, last, size)
+}
+
+#[no_mangle]
+pub extern "C" fn vmd_excerpt_size_lenient(
+    file: &[u8],
+    first: u32,
+    last: u32,
+    size: &mut u64,
+) -> u32
+    ensures { λ r. ⌜ (let answer = excerpt-size lenient first last (now (file .entry)) in
+        (r ≡ status answer)
+        × (now (size .exit) ≡ slot-after (now (size .entry)) (λ n. n) answer)) ⌝ }
+{
+    excerpt_size_in(VmdManner::Lenient, file, first, last, size)
+}
+
+fn excerpt_in(
+    manner: VmdManner,
+    file: &[u8],
+    first: u32,
+    last: u32,
+    out: &mut [u8],
+    written: &mut u64,
+) -> u32
+    ensures { λ r. ⌜ (let answer = excerpted-answer (manner-of manner) first last (now (file .entry)) (now (out .entry)) in
+        (r ≡ status answer)
+        × (now (written .exit) ≡ slot-after (now (written .entry)) (λ n. n) answer)
+        × (now (out .exit) ≡ excerpted-output (manner-of manner) first last (now (file .entry)) (now (out .entry)))) ⌝ }
+{
+    vmd_slots::report_written(
+        vmd_excerpt::excerpt_file(file, manner, first, last, out),
+        written,
+    )
+}
+
+#[no_mangle]
+pub extern "C" fn vmd_excerpt_animation(
+    file: &[u8],
+    first: u32,
+    last: u32,
+    out: &mut [u8],
+    written: &mut u64,
+) -> u32
+    ensures { λ r. ⌜ (let answer = excerpted-answer strict first last (now (file .entry)) (now (out .entry)) in
+        (r ≡ status answer)
+        × (now (written .exit) ≡ slot-after (now (written .entry)) (λ n. n) answer)
+        × (now (out .exit) ≡ excerpted-output strict first last (now (file .entry)) (now (out .entry)))) ⌝ }
+{
+    excerpt_in(VmdManner::Strict, file, first, last, out, written)
+}
+
+#[no_mangle]
+pub extern "C" fn vmd_excerpt_animation_lenient(
+    file: &[u8],
+    first: u32,
+    last: u32,
+    out: &mut [u8],
+    written: &mut u64,
+) -> u32
+    ensures { λ r. ⌜ (let answer = excerpted-answer lenient first last (now (file .entry)) (now (out .entry)) in
+        (r ≡ status answer)
+        × (now (written .exit) ≡ slot-after (now (written .entry)) (λ n. n) answer)
+        × (now (out .exit) ≡ excerpted-output lenient first last (now (file .entry)) (now (out .entry)))) ⌝ }
+{
+    excerpt_in(VmdManner::Lenient, file, first, last, out, written)
 }
 
 // ---- building

@@ -37,6 +37,8 @@ pub data Refusal : Type 0 where
   bytes-over : Refusal
   -- 02 i): an oversized camera, light or self-shadow count
   count-oversized : Refusal
+  -- 02 j): the first frame is above the last
+  first-above-last : Refusal
 
 abbrev pub number : Refusal → ℕ
 number file-ends-early = 1
@@ -56,3 +58,4 @@ number parts-do-not-fit = 14
 number model-name-too-long = 15
 number bytes-over = 16
 number count-oversized = 17
+number first-above-last = 18

@@ -15,7 +15,7 @@ pub between-true : (a b n : ℕ) → between a b n ≡ true → (a ≤ n) × (n 
 unfolding between
 between-true a b n e = let p = and-eq-true-iff (leb a n) (leb n b) .0 e in (leb-true a n (p .0), leb-true n b (p .1))
 
-true-between : (a b n : ℕ) → a ≤ n → n ≤ b → between a b n ≡ true
+pub true-between : (a b n : ℕ) → a ≤ n → n ≤ b → between a b n ≡ true
 unfolding between
 true-between a b n h k = rw (le-leb a n h, le-leb n b k)
 

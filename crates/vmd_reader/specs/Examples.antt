@@ -5,7 +5,7 @@ use lib.Dec.{eqb, T}
 use Rattle.vmd_format.specs.Refusal.{number, outside, scratch-too-short}
 use Rattle.vmd_format.specs.Answer.{declined, given}
 use Rattle.vmd_base.specs.Meaning.{refusal-of}
-use Rattle.vmd_base.specs.declared.VmdRefusal.the-variants.{FileEndsEarly, MagicDiffers, ScratchTooShort, Outside, PartsNotWhole, NameUnfit, NameNotGood, NotFinite, SelfShadowUnfit, ColumnsDisagree, CountTooLarge, NameIndexTooLarge, OutputTooShort, PartsDoNotFit, ModelNameTooLong, BytesOver, CountOversized}
+use Rattle.vmd_base.specs.declared.VmdRefusal.the-variants.{FileEndsEarly, MagicDiffers, ScratchTooShort, Outside, PartsNotWhole, NameUnfit, NameNotGood, NotFinite, SelfShadowUnfit, ColumnsDisagree, CountTooLarge, NameIndexTooLarge, OutputTooShort, PartsDoNotFit, ModelNameTooLong, BytesOver, CountOversized, FirstAboveLast}
 use Rattle.vmd_reader.specs.declared.VmdOpened.the-variants as opened
 use Rattle.vmd_reader.specs.declared.VmdBoneAnswer.the-variants as bone
 use Rattle.vmd_reader.specs.declared.VmdMorphAnswer.the-variants as morph
@@ -14,7 +14,7 @@ use Rattle.vmd_reader.specs.declared.VmdIkStateAnswer.the-variants as ik
 use Rattle.vmd_records.specs.Fields.{property-fields}
 use Rattle.vmd_reader.specs.Meaning.{opening-answer, bone-answer, morph-answer, step-fields, step-answer, ik-state-answer}
 
--- the numbers of document 01's table, and those of 02 a), e) and i)
+-- the numbers of document 01's table, and those of 02 a), e), i) and j)
 pub numbers : T (
     eqb (number (refusal-of FileEndsEarly)) 1
     && eqb (number (refusal-of MagicDiffers)) 2
@@ -32,7 +32,8 @@ pub numbers : T (
     && eqb (number (refusal-of PartsDoNotFit)) 14
     && eqb (number (refusal-of ModelNameTooLong)) 15
     && eqb (number (refusal-of BytesOver)) 16
-    && eqb (number (refusal-of CountOversized)) 17)
+    && eqb (number (refusal-of CountOversized)) 17
+    && eqb (number (refusal-of FirstAboveLast)) 18)
 numbers = tt
 
 -- an opening that is given, and one that is refused

@@ -1,6 +1,8 @@
 //! Takes written without the library, and folders to work in.
 #![allow(dead_code)] // each test uses some of it
 
+pub mod records;
+
 use std::fs;
 use std::path::{Path, PathBuf};
 use std::process::{Command, Output};
@@ -100,6 +102,8 @@ pub fn refused_by_all(manner: Manner, file: &[u8]) -> u32 {
         number(manner.join_size(file, &good)),
         number(manner.join_size(&good, file)),
         number(manner.tidy(file)),
+        number(manner.excerpt(file, 3, 30)),
+        number(manner.excerpt_size(file, 3, 30)),
         number(manner.split_sizes(file)),
         number(manner.split_into(file, PartsMut::default())),
     ];
@@ -112,6 +116,7 @@ pub fn refused_by_all(manner: Manner, file: &[u8]) -> u32 {
             number(manner.join_into(&good, file, &mut out)),
             number(manner.tidy_size(file, &mut scratch)),
             number(manner.tidy_into(file, &mut scratch, &mut out)),
+            number(manner.excerpt_into(file, 3, 30, &mut out)),
         ]);
         assert!(out == vec![0xA5; room] && scratch == vec![7; room], "a refused call has written");
     }

@@ -17,9 +17,11 @@ pub enum Call {
     Tidy,
     SplitSizes,
     Split,
+    ExcerptSize,
+    Excerpt,
 }
 
-const CALLS: [Call; 11] = [
+const CALLS: [Call; 13] = [
     Call::Opening,
     Call::ExportSize,
     Call::Export,
@@ -31,6 +33,8 @@ const CALLS: [Call; 11] = [
     Call::Tidy,
     Call::SplitSizes,
     Call::Split,
+    Call::ExcerptSize,
+    Call::Excerpt,
 ];
 
 macro_rules! alterations {
@@ -141,6 +145,46 @@ alterations! {
         TidyScratchPastItsEnd,
         TidyKept,
         TidyDropped,
+        ExcerptSize,
+        ExcerptSizeWithoutStates,
+        ExcerptFirstExcluded,
+        ExcerptLastExcluded,
+        ExcerptBonesUnfiltered,
+        ExcerptMorphsUnfiltered,
+        ExcerptCamerasUnfiltered,
+        ExcerptLightsUnfiltered,
+        ExcerptSelfShadowsUnfiltered,
+        ExcerptPropertiesUnfiltered,
+        ExcerptBonesUnshifted,
+        ExcerptMorphsUnshifted,
+        ExcerptCamerasUnshifted,
+        ExcerptLightsUnshifted,
+        ExcerptSelfShadowsUnshifted,
+        ExcerptPropertiesUnshifted,
+        ExcerptSigned,
+        ExcerptShiftedFirst,
+        ExcerptSmallestSubtracted,
+        ExcerptCounts,
+        ExcerptSorted,
+        ExcerptModelName,
+        ExcerptIkStates,
+        ExcerptIkStatesOfNumber,
+        ExcerptWholeIsFile,
+        ExcerptOlderMagic,
+        ExcerptAboveAccepted,
+        ExcerptAboveByOne,
+        ExcerptAboveTurned,
+        ExcerptOneFrameRefused,
+        ExcerptReadFirst,
+        ExcerptOutputFirst,
+        ExcerptExportAsked,
+        ExcerptExactRefused,
+        ExcerptAboveWritten,
+        ExcerptShortWritten,
+        ExcerptSlotInRefusal,
+        ExcerptSizeInRefusal,
+        ExcerptPastItsEnd,
+        ExcerptByte,
     }
     in_one {
         NanMadeQuiet,
@@ -220,6 +264,7 @@ alterations! {
         LongNameBeforeManner,
         PartsBeforeManner,
         TidyScratchBeforeManner,
+        ExcerptOutputBeforeManner,
         SeasonStrict,
     }
 }

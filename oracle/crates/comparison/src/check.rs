@@ -30,10 +30,22 @@ pub fn check_in_both<T: AsRef<[u8]>>(
 ) -> Checked {
     let expected = expected.map(T::as_ref);
     let lengths = lengths_for(expected.lenient);
+    check_in_both_into(&lengths, what, &expected, output, size, write)
+}
+
+/// The same, into outputs of these lengths.
+pub fn check_in_both_into(
+    lengths: &[usize],
+    what: &str,
+    expected: &Expected<&[u8]>,
+    output: &mut Output,
+    size: impl Fn(Manner, &mut u64) -> u32,
+    write: impl Fn(Manner, &mut [u8], &mut u64) -> u32,
+) -> Checked {
     for manner in MANNERS {
         let (what, expected) = (format!("{manner} {what}"), expected.in_manner(manner).copied());
         check_size(&what, expected, |slot| size(manner, slot))?;
-        check_written(&what, expected, &lengths, output, |out, written| write(manner, out, written))?;
+        check_written(&what, expected, lengths, output, |out, written| write(manner, out, written))?;
     }
     Ok(())
 }

@@ -1,7 +1,8 @@
 //! One file of either edition through every call of the reader and the exporter, converted, split into parts, added to a
-//! season, and tidied; where a call has two manners, in both.
+//! season, tidied, and cut to an excerpt; where a call has two manners, in both.
 
 use crate::check::{check_in_both, same, Checked, SLOT};
+use crate::excerpt::ExcerptCheck;
 use crate::lent::{Input, Output, Scratch};
 use crate::library::{self, Opening};
 use crate::manner::{self, Expected, FilesMet, Manner, Read, MANNERS};
@@ -38,6 +39,7 @@ pub struct FileCheck {
     pub split: SplitCheck,
     pub season: SeasonCheck,
     pub tidy: TidyCheck,
+    pub excerpt: ExcerptCheck,
 }
 
 /// Files that begin with the older magic, and how many of them are accepted; what the converter wrote and refused with 15.
@@ -62,6 +64,11 @@ fn unset_opening() -> Opening {
 }
 
 impl FileCheck {
+    /// The spans of excerpts come from this seed.
+    pub fn new(seed: u64) -> Self {
+        FileCheck { excerpt: ExcerptCheck::new(seed), ..FileCheck::default() }
+    }
+
     /// The answer in each manner; or a difference.
     pub fn check(&mut self, file: &[u8]) -> Result<Answers, String> {
         let mut input = std::mem::take(&mut self.input);
@@ -90,6 +97,7 @@ impl FileCheck {
         self.split.check(file, &read)?;
         self.season.check(file, read.lenient.as_ref().ok().map(|read| &read.take))?;
         self.tidy.check(file, &read)?;
+        self.excerpt.check(file, &read)?;
         self.met.add(file, met);
         if is_older(file) {
             same("the original's own answer to an older file", original::read_unwidened(file).err(), Some(MAGIC_DIFFERS))?;

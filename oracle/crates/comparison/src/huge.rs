@@ -1,5 +1,5 @@
 //! Counts at and above 4,294,967,295. Memory that is mapped and not written costs nothing, and the calls refuse before they
-//! look at the records: so the columns and files here can be as long as they say.
+//! look at the records: so the columns and files here can be as long as they say. And a file on memory that cannot be read.
 
 use crate::check::{check_in_both, same, Checked};
 use crate::lent::Output;
@@ -8,8 +8,9 @@ use crate::manner::{met_in_join, Expected, MANNERS};
 use crate::parts::check_built;
 use crate::tally::Tally;
 use oracle::files::{Pieces, SIZES};
-use oracle::original;
+use oracle::original::{self, FIRST_ABOVE_LAST};
 use oracle::parts::{Columns, Parts};
+use oracle::spans;
 use std::ffi::c_void;
 
 const MOST: usize = u32::MAX as usize;
@@ -22,13 +23,17 @@ extern "C" {
 /// This many zero bytes, of which only those take memory that are written.
 fn zeros(len: usize) -> Option<&'static mut [u8]> {
     const READ_AND_WRITE: i32 = 1 | 2;
+    mapped(len, READ_AND_WRITE)
+}
+
+fn mapped(len: usize, protection: i32) -> Option<&'static mut [u8]> {
     const PRIVATE_ANONYMOUS_NORESERVE: i32 = 0x2 | 0x20 | 0x4000;
-    let mapped = unsafe { mmap(std::ptr::null_mut(), len, READ_AND_WRITE, PRIVATE_ANONYMOUS_NORESERVE, -1, 0) };
+    let mapped = unsafe { mmap(std::ptr::null_mut(), len, protection, PRIVATE_ANONYMOUS_NORESERVE, -1, 0) };
     (mapped as isize != -1).then(|| unsafe { std::slice::from_raw_parts_mut(mapped.cast(), len) })
 }
 
 pub fn run() -> Tally {
-    let mut tally = Tally::new("Counts at and above 4,294,967,295", &[]);
+    let mut tally = Tally::new("Counts at and above 4,294,967,295, and a file that cannot be read", &[]);
     match zeros(64 * (MOST + 1)) {
         Some(zeros) => columns(&mut tally, zeros),
         None => println!("columns of so many records: not run, the memory could not be mapped"),
@@ -38,6 +43,7 @@ pub fn run() -> Tally {
         (Some(first), Some(second)) => files(&mut tally, first, second),
         _ => println!("files of so many records: not run, the memory could not be mapped"),
     }
+    unread(&mut tally);
     tally
 }
 
@@ -108,4 +114,24 @@ fn check_fitting(first: &[u8], second: &[u8]) -> Checked {
         same("join size", size, 74 + (SIZES[SELF_SHADOWS] * MOST) as u64)?;
     }
     Ok(())
+}
+
+// ---- excerpts, of a file that cannot be read
+
+/// 18 is tested before the file is read: to read a byte of this one would stop the program.
+fn unread(tally: &mut Tally) {
+    const NO_ACCESS: i32 = 0;
+    let file = &*mapped(1 << 20, NO_ACCESS).expect("memory for a file that cannot be read");
+    let mut output = Output::default();
+    for span in spans::spans_of_edges().filter(|span| span.first_is_above()) {
+        let refused = Expected { lenient: Err::<Vec<u8>, u32>(FIRST_ABOVE_LAST), strict: FIRST_ABOVE_LAST };
+        let checked = check_in_both(
+            "excerpt",
+            &refused,
+            &mut output,
+            |manner, size| library::excerpt_size(manner, file, span, size),
+            |manner, out, written| library::excerpt_animation(manner, file, span, out, written),
+        );
+        tally.count("excerpts of a file that cannot be read", checked.map(|()| refused.answers()), || format!("{span:?}"));
+    }
 }

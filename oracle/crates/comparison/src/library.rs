@@ -9,8 +9,9 @@ use mmd_anim_format::vmd::VmdParsedMorphFrame;
 use oracle::files::{Pieces, MAGIC, SIZES};
 use oracle::names::{self, has_character, is_lead, is_trail, BESIDE_THE_INDEX, RUNS};
 use oracle::older::{is_older, NARROWER, OLDER_MAGIC};
-use oracle::original::{self, ENDS_EARLY, SCRATCH_TOO_SHORT};
+use oracle::original::{self, VmdParsedAnimation, ENDS_EARLY, FIRST_ABOVE_LAST, SCRATCH_TOO_SHORT};
 use oracle::parts::{Columns, Parts};
+use oracle::spans::{Span, WHOLE};
 use oracle::strict::{self, Met, BYTES_OVER, EMPTIED, OVERSIZED};
 use std::borrow::Cow;
 
@@ -58,7 +59,7 @@ fn read_in(manner: Manner, which: Call, files: &[&[u8]], mut call: impl FnMut(Ma
 }
 
 fn turned_down(answer: u32) -> bool {
-    answer >= BYTES_OVER
+    [BYTES_OVER, OVERSIZED].contains(&answer)
 }
 
 /// The manner in which an altered library would read.
@@ -778,6 +779,204 @@ fn alter_tidied_scratch(answer: u32, scratch: &mut [u64], figures: &mut Figures)
         figures.kept.swap(3, 4);
     } else if altered(Alter::TidyDropped) {
         figures.dropped = [0; 6];
+    }
+}
+
+// ---- excerpts
+
+pub fn excerpt_size(manner: Manner, file: &[u8], span: Span, size: &mut u64) -> u32 {
+    call_begins(manner);
+    match frames_tested_otherwise(manner, file, span) {
+        Some(Err(refusal)) => return refusal,
+        Some(Ok(bytes)) => {
+            *size = bytes.len() as u64;
+            return 0;
+        }
+        None => {}
+    }
+    let answer = read_in(manner, Call::ExcerptSize, &[file], |manner| {
+        let call = of_manner!(manner, vmd_excerpt_size, vmd_excerpt_size_lenient);
+        unsafe { call(pointer(file), file.len(), span.first, span.last, size) }
+    });
+    if answer != 0 {
+        if altered(Alter::ExcerptSizeInRefusal) {
+            *size = 0;
+        }
+    } else if altered(Alter::ExcerptSize) {
+        *size = original::export_file(file).map_or(0, |bytes| bytes.len() as u64);
+    } else if altered(Alter::ExcerptSizeWithoutStates) {
+        let take = original::excerpt(&original::read(file).expect("a file with an excerpt"), span);
+        *size = 74 + original::counts_of(&take).iter().zip(SIZES).map(|(count, size)| (count * size) as u64).sum::<u64>();
+    }
+    answer
+}
+
+pub fn excerpt_animation(manner: Manner, file: &[u8], span: Span, out: &mut [u8], written: &mut u64) -> u32 {
+    call_begins(manner);
+    if let Some(given) = frames_tested_otherwise(manner, file, span) {
+        return given.map_or_else(|refusal| refusal, |bytes| put_excerpt(&bytes, out, written));
+    }
+    if output_tested_otherwise(manner, file, span, out.len()) {
+        return original::OUTPUT_TOO_SHORT;
+    }
+    let answer = read_in(manner, Call::Excerpt, &[file], |manner| {
+        let call = of_manner!(manner, vmd_excerpt_animation, vmd_excerpt_animation_lenient);
+        unsafe { call(pointer(file), file.len(), span.first, span.last, pointer_mut(out), out.len(), written) }
+    });
+    let short = || original::excerpt_file(file, span).is_ok_and(|bytes| out.len() < bytes.len());
+    if altered(Alter::ExcerptOutputBeforeManner) && turned_down(answer) && short() {
+        return original::OUTPUT_TOO_SHORT;
+    }
+    if answer == 0 {
+        alter_excerpt(file, span, out, written);
+    } else {
+        alter_no_excerpt(answer, out, written);
+    }
+    answer
+}
+
+fn put_excerpt(bytes: &[u8], out: &mut [u8], written: &mut u64) -> u32 {
+    if out.len() < bytes.len() {
+        return original::OUTPUT_TOO_SHORT;
+    }
+    out[..bytes.len()].copy_from_slice(bytes);
+    *written = bytes.len() as u64;
+    0
+}
+
+/// What a library gives that tests the two frames otherwise, where that is something else.
+fn frames_tested_otherwise(manner: Manner, file: &[u8], span: Span) -> Option<Result<Vec<u8>, u32>> {
+    let above = span.first_is_above();
+    let above_by_one = above && span.first - span.last == 1;
+    let excerpt = |span: Span| read_by(manner, file).map(|take| original::export(&original::excerpt(&take, span)));
+    if altered(Alter::ExcerptOneFrameRefused) && span.first == span.last {
+        Some(Err(FIRST_ABOVE_LAST))
+    } else if altered(Alter::ExcerptAboveAccepted) && above || altered(Alter::ExcerptAboveByOne) && above_by_one {
+        Some(excerpt(span)) // no record stays
+    } else if altered(Alter::ExcerptAboveTurned) && above {
+        Some(excerpt(span.turned()))
+    } else if altered(Alter::ExcerptReadFirst) && above {
+        read_by(manner, file).err().map(Err)
+    } else {
+        None
+    }
+}
+
+/// Reading in this manner, without the library.
+fn read_by(manner: Manner, file: &[u8]) -> Result<VmdParsedAnimation, u32> {
+    match (manner, strict::met(file).answer()) {
+        (Manner::Strict, refusal @ 1..) => Err(refusal),
+        _ => original::read(file),
+    }
+}
+
+/// A 13 that the library does not give, or not first; nothing is written.
+fn output_tested_otherwise(manner: Manner, file: &[u8], span: Span, out_len: usize) -> bool {
+    let above = span.first_is_above();
+    let below_export = || read_by(manner, file).is_ok_and(|take| out_len < original::export(&take).len());
+    let exact = || read_by(manner, file).is_ok_and(|take| out_len == original::export(&original::excerpt(&take, span)).len());
+    altered(Alter::ExcerptOutputFirst) && above && below_export()
+        || altered(Alter::ExcerptExportAsked) && !above && below_export()
+        || altered(Alter::ExcerptExactRefused) && !above && exact()
+}
+
+fn alter_no_excerpt(answer: u32, out: &mut [u8], written: &mut u64) {
+    let first_byte = altered(Alter::ExcerptAboveWritten) && answer == FIRST_ABOVE_LAST
+        || altered(Alter::ExcerptShortWritten) && answer == original::OUTPUT_TOO_SHORT;
+    if first_byte {
+        out.iter_mut().take(1).for_each(|byte| *byte ^= 1);
+    } else if altered(Alter::ExcerptSlotInRefusal) {
+        *written = 0;
+    }
+}
+
+fn alter_excerpt(file: &[u8], span: Span, out: &mut [u8], written: &mut u64) {
+    let end = *written as usize;
+    if altered(Alter::ExcerptPastItsEnd) && end < out.len() {
+        out[end] ^= 1;
+    } else if altered(Alter::ExcerptByte) {
+        out[end - 1] ^= 1;
+    } else if altered(Alter::ExcerptOlderMagic) && is_older(file) {
+        out[..OLDER_MAGIC.len()].copy_from_slice(OLDER_MAGIC);
+    } else if altered(Alter::ExcerptWholeIsFile) && span == WHOLE {
+        put_excerpt(file, out, written);
+    } else if UNFILTERED.into_iter().chain(UNSHIFTED).chain(EXCERPTED_OTHERWISE).any(altered) {
+        put_excerpt(&mistaken_excerpt(file, span), out, written);
+    }
+}
+
+const UNFILTERED: [Alter; 6] = [
+    Alter::ExcerptBonesUnfiltered,
+    Alter::ExcerptMorphsUnfiltered,
+    Alter::ExcerptCamerasUnfiltered,
+    Alter::ExcerptLightsUnfiltered,
+    Alter::ExcerptSelfShadowsUnfiltered,
+    Alter::ExcerptPropertiesUnfiltered,
+];
+
+const UNSHIFTED: [Alter; 6] = [
+    Alter::ExcerptBonesUnshifted,
+    Alter::ExcerptMorphsUnshifted,
+    Alter::ExcerptCamerasUnshifted,
+    Alter::ExcerptLightsUnshifted,
+    Alter::ExcerptSelfShadowsUnshifted,
+    Alter::ExcerptPropertiesUnshifted,
+];
+
+const EXCERPTED_OTHERWISE: [Alter; 10] = [
+    Alter::ExcerptFirstExcluded,
+    Alter::ExcerptLastExcluded,
+    Alter::ExcerptSigned,
+    Alter::ExcerptShiftedFirst,
+    Alter::ExcerptSmallestSubtracted,
+    Alter::ExcerptCounts,
+    Alter::ExcerptSorted,
+    Alter::ExcerptModelName,
+    Alter::ExcerptIkStates,
+    Alter::ExcerptIkStatesOfNumber,
+];
+
+/// What an excerpt with one of these mistakes would be.
+fn mistaken_excerpt(file: &[u8], span: Span) -> Vec<u8> {
+    let take = original::read(file).expect("a file with an excerpt");
+    let smallest = original::smallest_frame(&take);
+    let mut excerpt = original::reframed(&take, |section, frame| {
+        let subtracted = match () {
+            _ if altered(UNSHIFTED[section]) => 0,
+            _ if altered(Alter::ExcerptSmallestSubtracted) => smallest,
+            _ => span.first,
+        };
+        (altered(UNFILTERED[section]) || stays_by_mistake(frame, span)).then(|| frame.wrapping_sub(subtracted))
+    });
+    if altered(Alter::ExcerptSorted) {
+        excerpt.morph_frames.sort_by_key(|record| record.frame);
+    } else if altered(Alter::ExcerptModelName) {
+        excerpt.metadata.model_name_bytes.clear();
+        excerpt.metadata.model_name.clear(); // which is written where there are no bytes
+    } else if altered(Alter::ExcerptIkStates) {
+        excerpt.property_frames.iter_mut().for_each(|frame| frame.ik_states.clear());
+    } else if altered(Alter::ExcerptIkStatesOfNumber) {
+        let frames = excerpt.property_frames.iter_mut().zip(&take.property_frames);
+        frames.for_each(|(frame, of_file)| frame.ik_states.clone_from(&of_file.ik_states));
+    }
+    let mut bytes = original::export(&excerpt);
+    if altered(Alter::ExcerptCounts) {
+        let (of_file, kept, mut at) = (original::counts_of(&take), original::counts_of(&excerpt), 50);
+        for (i, count) in of_file.into_iter().enumerate() {
+            bytes[at..at + 4].copy_from_slice(&(count as u32).to_le_bytes());
+            at += 4 + SIZES[i] * kept[i];
+        }
+    }
+    bytes
+}
+
+fn stays_by_mistake(frame: u32, Span { first, last }: Span) -> bool {
+    match () {
+        _ if altered(Alter::ExcerptFirstExcluded) => first < frame && frame <= last,
+        _ if altered(Alter::ExcerptLastExcluded) => first <= frame && frame < last,
+        _ if altered(Alter::ExcerptSigned) => first as i32 <= frame as i32 && frame as i32 <= last as i32,
+        _ if altered(Alter::ExcerptShiftedFirst) => first <= frame && frame - first <= last,
+        _ => first <= frame && frame <= last,
     }
 }
 

@@ -1,15 +1,16 @@
 //! The proved library and the original Rust on the same inputs, every result compared.
 //!
 //!     compare N SEED          N files, N part sets, N / 5 older files, N / 10 files whose names repeat, joins, joins with
-//!                             older files and names, N / 5 takes to tidy, N / 20 files of up to 70 property frames and
-//!                             N / 100 older ones, as many of each made for the strict manner to turn down and N / 20 joins
-//!                             of them, beside the fixed inputs
+//!                             older files and names, N / 5 takes to tidy, N / 5 excerpts, N / 20 files of up to 70 property
+//!                             frames and N / 100 older ones, as many of each made for the strict manner to turn down and
+//!                             N / 20 joins of them, beside the fixed inputs
 //!     compare self-test       alters one result after another: each has to be reported
 //!
 //! The working directory is the repository, whose table of request h) is compared too.
 
 mod alter;
 mod check;
+mod excerpt;
 mod files;
 mod header;
 mod huge;
@@ -86,7 +87,11 @@ fn compare(cases: u64, seed: u64) -> ExitCode {
     tidying.print();
     tidy_check.met.print();
     print_tidied(&tidy_check.tally);
-    let tallies = [&names, &triples, &files, &older, &joins, &older_joins, &strict_joins, &parts, &huge, &tidying];
+    let (excerpts, excerpt_check) = timed("excerpts", || runs::excerpts(cases / 5, seed));
+    excerpts.print();
+    excerpt_check.met.print();
+    print_excerpts(&excerpt_check.tally);
+    let tallies = [&names, &triples, &files, &older, &joins, &older_joins, &strict_joins, &parts, &huge, &tidying, &excerpts];
     let cases: u64 = tallies.iter().map(|tally| tally.cases()).sum();
     let differences: usize = tallies.iter().map(|tally| tally.differences.len()).sum::<usize>() + index.differences.len();
     println!("{cases} cases, {} of them older files, {differences} differences", older_check.editions.older);
@@ -118,6 +123,7 @@ fn print_files(check: &files::FileCheck) {
     print_splits(&check.split);
     print_seasons(&check.season);
     print_tidied(&check.tidy.tally);
+    print_excerpts(&check.excerpt.tally);
 }
 
 fn print_older(editions: &files::EditionTally) {
@@ -160,6 +166,15 @@ fn print_tidied(tally: &tidy::TidyTally) {
     println!("    {} tracks with {} records kept and {} dropped", tally.tracks, tally.kept, tally.dropped);
 }
 
+fn print_excerpts(tally: &excerpt::ExcerptTally) {
+    let excerpt::ExcerptTally { all, some, none, empty, whole, kept, left_out, refused, .. } = tally;
+    println!("  excerpts: {all} with all records, {some} with some, {none} with none, {empty} of takes without records;");
+    println!("    {whole} from 0 to 4294967295; {kept} records kept and {left_out} left out");
+    let ([over, oversized], [accepted, cut, turned_down]) = (tally.turned_down, tally.above);
+    println!("    refused with 1 or 2: {refused}; of the others strictly 16: {over}, 17: {oversized}");
+    println!("    18: {accepted} of files that are accepted, {cut} of 1 or 2, {turned_down} of strictly 16 or 17");
+}
+
 fn print_marked(tally: &parts::MarkedTally) {
     println!(
         "  {} of the sets have a name with a byte order mark; the original gives the same answer for {}",
@@ -175,10 +190,11 @@ fn print_marked(tally: &parts::MarkedTally) {
 const SELF_TEST_CASES: u64 = 3000;
 
 /// The short runs first, of them those that report the most.
-const RUNS: [fn() -> Tally; 8] = [
+const RUNS: [fn() -> Tally; 9] = [
     || runs::joins(SELF_TEST_CASES, 1).0,
     || runs::older_joins(SELF_TEST_CASES, 1).0,
     || runs::turned_down_joins(SELF_TEST_CASES, 1).0,
+    || runs::excerpts(SELF_TEST_CASES, 1).0,
     || runs::older_files(SELF_TEST_CASES, 1).0,
     || runs::names(SELF_TEST_CASES, 1).0,
     || runs::parts(SELF_TEST_CASES, 1).0,

@@ -1,5 +1,6 @@
 //! The runs: fixed inputs first, then N random ones from a seed.
 
+use crate::excerpt::ExcerptCheck;
 use crate::files::FileCheck;
 use crate::joins::JoinCheck;
 use crate::name_test::NameTally;
@@ -15,6 +16,7 @@ use oracle::part_sets::{self, set_kind, set_of, SetKind, FAULTS, PLACES, SET_KIN
 use oracle::parts::Parts;
 use oracle::properties::{self, UP_TO_70};
 use oracle::random::Random;
+use oracle::spans;
 use oracle::turned_down::{self, turned_down};
 
 /// Random inputs of each run come from streams of their own.
@@ -32,6 +34,7 @@ const CROWDED: u64 = 11 << 60;
 const TURNED_DOWN: u64 = 12 << 60;
 const OLDER_TURNED_DOWN: u64 = 13 << 60;
 const TURNED_DOWN_JOINS: u64 = 14 << 60;
+const EXCERPTS: u64 = 15 << 60;
 
 fn hex(bytes: &[u8]) -> String {
     bytes.iter().map(|byte| format!("{byte:02x}")).collect()
@@ -60,8 +63,8 @@ pub fn files(cases: u64, seed: u64) -> (Tally, FileCheck) {
     let fixed = [DOCUMENT_01, EVERY_PREFIX, EVERY_CHANGE, LARGE_COUNTS, MANY_NAMES, FRAME_NUMBERS, OVER_OR_OVERSIZED];
     let drawn = FILE_KINDS.map(FileKind::label).into_iter().chain([FEW_NAMES, UP_TO_70]).chain(turned_down::KINDS);
     let labels: Vec<&str> = fixed.into_iter().chain(drawn).collect();
-    let title = "Files: opening, records, names, export, parts, season figures, tidying";
-    let (mut tally, mut check) = (Tally::new(title, &labels), FileCheck::default());
+    let title = "Files: opening, records, names, export, parts, season figures, tidying, excerpts";
+    let (mut tally, mut check) = (Tally::new(title, &labels), FileCheck::new(seed));
     for (label, file) in fixed_files(seed) {
         tally.count(label, check.check(&file), || shown_file(&file));
     }
@@ -124,8 +127,9 @@ pub fn older_files(cases: u64, seed: u64) -> (Tally, FileCheck) {
     let of_header = [older::HEADER_CUT, older::HEADER_OTHER, FEW_NAMES, UP_TO_70];
     let drawn = FILE_KINDS.map(FileKind::label).into_iter().chain(of_header).chain(turned_down::KINDS);
     let labels: Vec<&str> = fixed.into_iter().chain(drawn).collect();
-    let title = "Older files, widened for the original: opening, records, names, export, parts, season figures, tidying";
-    let (mut tally, mut check) = (Tally::new(title, &labels), FileCheck::default());
+    let title =
+        "Older files, widened for the original: opening, records, names, export, parts, season figures, tidying, excerpts";
+    let (mut tally, mut check) = (Tally::new(title, &labels), FileCheck::new(seed));
     for (label, file) in fixed_older_files(seed) {
         tally.count(label, check.check(&file), || shown_file(&file));
     }
@@ -297,6 +301,38 @@ pub fn tidying(cases: u64, seed: u64) -> (Tally, TidyCheck) {
     for case in 0..cases {
         let (label, file) = crowded::crowded_file(&mut Random::for_case(seed, CROWDED + case));
         tally.count(label, check.check_file(&file), || format!("random take {case} to tidy: {}", shown_file(&file)));
+    }
+    (tally, check)
+}
+
+// ---- excerpts
+
+const EACH_EDGE: &str = "from each edge to each, both editions";
+const EACH_ANSWER: &str = "the same of a small file of each answer";
+const OF_JOINS: &str = "of a join, and the join of excerpts";
+
+pub fn excerpts(cases: u64, seed: u64) -> (Tally, ExcerptCheck) {
+    let crowded = [crowded::CROWDED, crowded::OLDER_CROWDED, crowded::JOINED, crowded::DAMAGED];
+    let labels: Vec<&str> = [EACH_EDGE, EACH_ANSWER].into_iter().chain(crowded).chain([spans::TO_TURN_DOWN, OF_JOINS]).collect();
+    let title = "Excerpts: expected from the original's export of the records between the two frames";
+    let (mut tally, mut check) = (Tally::new(title, &labels), ExcerptCheck::default());
+    let edges = spans::takes_with_edges(&mut Random::for_case(seed, FIXED + 6)).map(|file| (EACH_EDGE, file));
+    for (label, file) in edges.into_iter().chain(turned_down::each_answer().into_iter().map(|file| (EACH_ANSWER, file))) {
+        for span in spans::spans_of_edges() {
+            tally.count(label, check.check_file(&file, |_| span), || hex(&file));
+        }
+    }
+    for case in 0..cases {
+        let mut random = Random::for_case(seed, EXCERPTS + case);
+        if random.one_in(8) {
+            let [first, second] = [0; 2].map(|_| of_either_edition(whole(&mut random), &mut random));
+            let checked = check.check_joined([&first, &second], |frames| spans::span(frames, &mut random));
+            tally.count(OF_JOINS, checked, || format!("random excerpt {case}: {} and {}", hex(&first), hex(&second)));
+        } else {
+            let (label, file) = spans::file_to_excerpt(&mut random);
+            let checked = check.check_file(&file, |frames| spans::span(frames, &mut random));
+            tally.count(label, checked, || format!("random excerpt {case}: {}", hex(&file)));
+        }
     }
     (tally, check)
 }

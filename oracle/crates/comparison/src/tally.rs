@@ -1,6 +1,6 @@
 //! Cases by category and outcome, and the differences.
 
-use oracle::strict::BYTES_OVER;
+use oracle::strict::{BYTES_OVER, OVERSIZED};
 
 pub struct Tally {
     title: &'static str,
@@ -24,13 +24,13 @@ impl From<u32> for Answers {
 #[derive(Default)]
 struct Row {
     label: String,
-    /// By answer in the lenient manner, 0 for accepted, then refusals 1 to 13; then 16 and 17, which the strict one alone gives.
-    columns: [u64; 16],
+    /// By answer in the lenient manner, 0 for accepted, else the refusal; then 16 and 17, which the strict one alone gives.
+    columns: [u64; 21],
     differences: u64,
 }
 
 /// Columns of the lenient manner's answers: every case is in one of them.
-const LENIENT: usize = 14;
+const LENIENT: usize = 19;
 
 fn heading(column: usize) -> String {
     match column {
@@ -100,7 +100,7 @@ impl Tally {
 impl Row {
     fn add(&mut self, answers: Answers) {
         self.columns[answers.lenient as usize] += 1;
-        if answers.strict >= BYTES_OVER {
+        if let BYTES_OVER | OVERSIZED = answers.strict {
             self.columns[LENIENT + (answers.strict - BYTES_OVER) as usize] += 1;
         }
     }

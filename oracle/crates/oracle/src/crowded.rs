@@ -45,7 +45,7 @@ fn crowded(random: &mut Random) -> Pieces {
     pieces
 }
 
-fn record_at(section: usize, frame: u32, random: &mut Random) -> Vec<u8> {
+pub(crate) fn record_at(section: usize, frame: u32, random: &mut Random) -> Vec<u8> {
     let mut record = Vec::new();
     put_record(section, &mut record, random);
     record[FRAME[section]..FRAME[section] + 4].copy_from_slice(&frame.to_le_bytes());

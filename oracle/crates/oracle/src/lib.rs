@@ -11,5 +11,6 @@ pub mod part_sets;
 pub mod parts;
 pub mod properties;
 pub mod random;
+pub mod spans;
 pub mod strict;
 pub mod turned_down;

@@ -3,6 +3,7 @@
 use crate::files::{Pieces, Section, IK_STATE_SIZE, SIZES};
 use crate::older;
 use crate::parts::{property_frames_in, push_name, Columns, Parts};
+use crate::spans::Span;
 use mmd_anim_format::error::ImportError;
 pub use mmd_anim_format::vmd::VmdParsedAnimation;
 use mmd_anim_format::vmd::{
@@ -19,6 +20,7 @@ pub const NOT_GOOD: u32 = 7;
 pub const OUTPUT_TOO_SHORT: u32 = 13;
 pub const PARTS_DO_NOT_FIT: u32 = 14;
 pub const MODEL_NAME_TOO_LONG: u32 = 15;
+pub const FIRST_ABOVE_LAST: u32 = 18;
 
 /// The original's reading of a file, an older one widened first.
 pub fn read(file: &[u8]) -> Result<VmdParsedAnimation, u32> {
@@ -34,16 +36,20 @@ pub fn read_unwidened(file: &[u8]) -> Result<VmdParsedAnimation, u32> {
     })
 }
 
-/// Request c)'s smallest frame, over the records that the original read. It keeps the largest alone.
-pub fn smallest_frame(take: &VmdParsedAnimation) -> u32 {
+/// The frames of all records, section by section.
+pub fn frames(take: &VmdParsedAnimation) -> impl Iterator<Item = u32> + '_ {
     let bones = take.bone_frames.iter().map(|record| record.frame);
     let morphs = take.morph_frames.iter().map(|record| record.frame);
     let cameras = take.camera_frames.iter().map(|record| record.frame);
     let lights = take.light_frames.iter().map(|record| record.frame);
     let self_shadows = take.self_shadow_frames.iter().map(|record| record.frame);
     let properties = take.property_frames.iter().map(|record| record.frame);
-    let frames = bones.chain(morphs).chain(cameras).chain(lights).chain(self_shadows).chain(properties);
-    frames.min().unwrap_or(0)
+    bones.chain(morphs).chain(cameras).chain(lights).chain(self_shadows).chain(properties)
+}
+
+/// Request c)'s smallest frame, over the records that the original read. It keeps the largest alone.
+pub fn smallest_frame(take: &VmdParsedAnimation) -> u32 {
+    frames(take).min().unwrap_or(0)
 }
 
 pub fn export(take: &VmdParsedAnimation) -> Vec<u8> {
@@ -122,6 +128,44 @@ pub fn tracks<T>(records: &[T], name: impl Fn(&T) -> &[u8]) -> Vec<Vec<&T>> {
 /// As the original calls it: for the keys of one track, in file order.
 fn last_keys_per_frame<'a, T>(track: Vec<&'a T>, frame: impl Fn(&T) -> u32) -> Vec<&'a T> {
     VmdPoseExport::last_vmd_keys_per_frame(track, |key| frame(key))
+}
+
+// ---- excerpts
+
+/// Request j)'s excerpt, in the original's own records; none where the first frame is above the last.
+pub fn excerpt(take: &VmdParsedAnimation, span: Span) -> VmdParsedAnimation {
+    reframed(take, |_, frame| (span.first <= frame && frame <= span.last).then(|| frame - span.first))
+}
+
+pub fn excerpt_file(file: &[u8], span: Span) -> Result<Vec<u8>, u32> {
+    read(file).map(|take| export(&excerpt(&take, span)))
+}
+
+/// The records whose section and frame give a frame, in their order, with the frame that is given.
+pub fn reframed(take: &VmdParsedAnimation, given: impl Fn(usize, u32) -> Option<u32>) -> VmdParsedAnimation {
+    VmdParsedAnimation {
+        kind: take.kind,
+        metadata: take.metadata.clone(),
+        bone_frames: reframed_records(&take.bone_frames, |record| &mut record.frame, |frame| given(0, frame)),
+        morph_frames: reframed_records(&take.morph_frames, |record| &mut record.frame, |frame| given(1, frame)),
+        camera_frames: reframed_records(&take.camera_frames, |record| &mut record.frame, |frame| given(2, frame)),
+        light_frames: reframed_records(&take.light_frames, |record| &mut record.frame, |frame| given(3, frame)),
+        self_shadow_frames: reframed_records(&take.self_shadow_frames, |record| &mut record.frame, |frame| given(4, frame)),
+        property_frames: reframed_records(&take.property_frames, |record| &mut record.frame, |frame| given(5, frame)),
+    }
+}
+
+fn reframed_records<T: Clone>(
+    records: &[T],
+    frame_of: impl Fn(&mut T) -> &mut u32,
+    given: impl Fn(u32) -> Option<u32>,
+) -> Vec<T> {
+    let kept = records.iter().cloned().filter_map(|mut record| {
+        let frame = frame_of(&mut record);
+        *frame = given(*frame)?;
+        Some(record)
+    });
+    kept.collect()
 }
 
 /// Bytes that are to be written into an output of this many bytes.

@@ -17,7 +17,7 @@ number-spec =
     (tie.spec
     (λ c. search needs) (λ c. search needs) (λ c. search needs) (λ c. search needs) (λ c. search needs) (λ c. search needs)
     (λ c. search needs) (λ c. search needs) (λ c. search needs) (λ c. search needs) (λ c. search needs) (λ c. search needs)
-    (λ c. search needs) (λ c. search needs) (λ c. search needs) (λ c. search needs) (λ c. search needs)
+    (λ c. search needs) (λ c. search needs) (λ c. search needs) (λ c. search needs) (λ c. search needs) (λ c. search needs)
     (λ c. of-case (c .enum-told .given .1))
     (λ c. of-case (c .enum-told2 .given .1))
     (λ c. of-case (c .enum-told3 .given .1))
@@ -34,4 +34,5 @@ number-spec =
     (λ c. of-case (c .enum-told14 .given .1))
     (λ c. of-case (c .enum-told15 .given .1))
     (λ c. of-case (c .enum-told16 .given .1))
-    (λ c. of-case (c .enum-told17 .given .1)))
+    (λ c. of-case (c .enum-told17 .given .1))
+    (λ c. of-case (c .enum-told18 .given .1)))

@@ -1,0 +1,3 @@
+pub mod Excerpt
+pub mod ExcerptLaws
+pub mod Examples
