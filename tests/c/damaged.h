@@ -8,6 +8,7 @@
 
 #include "expect.h"
 #include "manner.h"
+#include "random.h"
 #include "take.h"
 #include "vmd.h"
 
@@ -391,6 +392,30 @@ static inline void each_damaged(enum edition edition, sample_trial try)
     sections_missing(edition, try);
     other_headers(edition, try);
     long_names(edition, try);
+}
+
+/* ---- any of them */
+
+/* A file becomes one that only the lenient manner reads. */
+static inline void damage(struct sample *s)
+{
+    int section = VMD_CAMERAS + (int)random_below(4);
+    if (section == VMD_PROPERTIES)
+        put_over(s, 1 + random_below(40), OWN_BYTES);
+    else
+        oversize(s, section, 0xFFFFFFFF - (uint32_t)random_below(1000));
+}
+
+/* The end, a byte or a number somewhere after the older edition's header may be anything. */
+static inline void spoil(struct bytes *b)
+{
+    size_t at = editions[OLDER].sections + random_below(b->len - editions[OLDER].sections - 3);
+    switch (random_below(4)) {
+    case 0: b->len = editions[OLDER].sections + random_below(b->len - editions[OLDER].sections); break;
+    case 1: put(b, b->at, random_below(30)); break;
+    case 2: b->at[at] = (uint8_t)random_below(4); break;
+    default: set_u32(b, at, (uint32_t)(random_below(2) ? random_below(6) : random_u64()));
+    }
 }
 
 #endif

@@ -515,18 +515,6 @@ static void any_byte_changed(enum edition edition)
         }
 }
 
-/* The end, a byte or a number somewhere after the older edition's header may be anything. */
-static void spoil(struct bytes *b)
-{
-    size_t at = editions[OLDER].sections + random_below(b->len - editions[OLDER].sections - 3);
-    switch (random_below(4)) {
-    case 0: b->len = editions[OLDER].sections + random_below(b->len - editions[OLDER].sections); break;
-    case 1: put(b, b->at, random_below(30)); break;
-    case 2: b->at[at] = (uint8_t)random_below(4); break;
-    default: set_u32(b, at, (uint32_t)(random_below(2) ? random_below(6) : random_u64()));
-    }
-}
-
 static void any_files(void)
 {
     static struct bytes b;
@@ -639,16 +627,6 @@ static void law_of_two_pieces(enum manner m, const struct bytes *in, uint32_t at
         expect_number("records of both pieces", (uint64_t)p.counts[s] + q.counts[s], o.counts[s]);
     expect_number("IK states of both pieces", p.totals[VMD_TOTAL_IK_STATES] + q.totals[VMD_TOTAL_IK_STATES],
                   o.totals[VMD_TOTAL_IK_STATES]);
-}
-
-/* A file becomes one that only the lenient manner reads. */
-static void damage(struct sample *s)
-{
-    int section = VMD_CAMERAS + (int)random_below(4);
-    if (section == VMD_PROPERTIES)
-        put_over(s, 1 + random_below(40), OWN_BYTES);
-    else
-        oversize(s, section, 0xFFFFFFFF - (uint32_t)random_below(1000));
 }
 
 /* In the one manner and the other in turn, over files that it accepts. */

@@ -342,18 +342,6 @@ static void any_byte_changed(enum edition edition)
         }
 }
 
-/* The end, a byte or a number somewhere after the older edition's header may be anything. */
-static void damage(struct bytes *b)
-{
-    size_t at = editions[OLDER].sections + random_below(b->len - editions[OLDER].sections - 3);
-    switch (random_below(4)) {
-    case 0: b->len = editions[OLDER].sections + random_below(b->len - editions[OLDER].sections); break;
-    case 1: put(b, b->at, random_below(30)); break;
-    case 2: b->at[at] = (uint8_t)random_below(4); break;
-    default: set_u32(b, at, (uint32_t)(random_below(2) ? random_below(6) : random_u64()));
-    }
-}
-
 static void any_files(void)
 {
     static struct bytes b;
@@ -365,7 +353,7 @@ static void any_files(void)
         trial("random file %zu", i);
         encode_in(&b, random_below(2) ? OLDER : NEWER, &t, RAW);
         for (n = random_below(4); n > 0 && b.len > editions[OLDER].sections + 4; n--)
-            damage(&b);
+            spoil(&b);
         ask_all(&b, expected_reading(b.at, b.len, &o));
     }
 }

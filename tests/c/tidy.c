@@ -374,16 +374,6 @@ static void tidied_twice(enum manner m, const struct bytes *once)
     expect_opens_alike(once->at, once->len);
 }
 
-/* A file becomes one that only the lenient manner reads. */
-static void damage(struct sample *s)
-{
-    int section = VMD_CAMERAS + (int)random_below(4);
-    if (section == VMD_PROPERTIES)
-        put_over(s, 1 + random_below(40), OWN_BYTES);
-    else
-        oversize(s, section, 0xFFFFFFFF - (uint32_t)random_below(1000));
-}
-
 /*
  * A join tidied, and the join of the two tidied ones tidied, both as the test's own order tells: in the one manner and the
  * other in turn, over files that it accepts.
