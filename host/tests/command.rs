@@ -309,16 +309,19 @@ fn tidies_a_join() {
     assert!(once.stdout == twice.stdout);
 }
 
-/// Nothing is told of what was kept where the take was not saved: what is told then is why.
-#[test]
-fn a_tidied_take_that_is_not_saved() {
-    let folder = Folder::new("tidy-fails");
-    let (take, _) = untidy();
-    folder.file("take", &take);
+/// A command of one take, by the words before it: what the take is refused for, and what cannot be read or written, is told and
+/// nothing else; "out" in the folder stays as it was.
+fn expect_not_saved(folder: &Folder, command: &[&str], take: &[u8]) {
+    folder.file("take", take);
     folder.file("early", &take[..take.len() - 1]);
     folder.file("other", &[0x41; 60]);
     folder.file("out", b"old");
     fs::create_dir(folder.join("folder")).unwrap();
+    let command = || {
+        let mut vmd = vmd();
+        vmd.current_dir(&folder.0).args(command);
+        vmd
+    };
     for (words, expected, sentence) in [
         (["early", "out"], 1, "early: refused 1: the file ends early"),
         (["other", "out"], 1, "other: refused 2: the file is not a VMD take"),
@@ -327,13 +330,21 @@ fn a_tidied_take_that_is_not_saved() {
         (["folder", "out"], 2, "folder: cannot read the file: it is a folder"),
         (["take", "folder"], 2, "folder: cannot replace the file: it is a folder"),
     ] {
-        let done = vmd().current_dir(&folder.0).args(["tidy", words[0], "-o", words[1]]).output().unwrap();
+        let done = command().args([words[0], "-o", words[1]]).output().unwrap();
         assert_eq!((status(&done), out(&done), err(&done)), (expected, String::new(), format!("vmd: {sentence}\n")));
         assert_eq!(fs::read(folder.join("out")).unwrap(), b"old");
     }
-    let piped = given(vmd().current_dir(&folder.0).args(["tidy", "-", "-o", "out"]), &start());
+    let piped = given(command().args(["-", "-o", "out"]), &start());
     assert_eq!((status(&piped), err(&piped)), (1, "vmd: standard input: refused 1: the file ends early\n".into()));
     assert_eq!(fs::read(folder.join("out")).unwrap(), b"old");
+}
+
+/// Nothing is told of what was kept where the take was not saved: what is told then is why.
+#[test]
+fn a_tidied_take_that_is_not_saved() {
+    let folder = Folder::new("tidy-fails");
+    let (take, _) = untidy();
+    expect_not_saved(&folder, &["tidy"], &take);
     // standard error that cannot be written to does not keep the take from being saved
     let done = vmd_under("exec 2>&-").current_dir(&folder.0).args(["tidy", "take", "-o", "out"]).output().unwrap();
     assert_eq!((status(&done), out(&done)), (0, String::new()));
@@ -488,25 +499,7 @@ fn words_that_are_no_frame() {
 fn an_excerpt_that_is_not_saved() {
     let folder = Folder::new("excerpt-fails");
     let [take, _] = around();
-    folder.file("take", &take);
-    folder.file("early", &take[..take.len() - 1]);
-    folder.file("other", &[0x41; 60]);
-    folder.file("out", b"old");
-    fs::create_dir(folder.join("folder")).unwrap();
-    for (words, expected, sentence) in [
-        (["early", "out"], 1, "early: refused 1: the file ends early"),
-        (["other", "out"], 1, "other: refused 2: the file is not a VMD take"),
-        (["early", "-"], 1, "early: refused 1: the file ends early"),
-        (["none", "out"], 2, "none: cannot read the file: No such file or directory (os error 2)"),
-        (["folder", "out"], 2, "folder: cannot read the file: it is a folder"),
-        (["take", "folder"], 2, "folder: cannot replace the file: it is a folder"),
-    ] {
-        let done = vmd().current_dir(&folder.0).args(["excerpt", "5", "5", words[0], "-o", words[1]]).output().unwrap();
-        assert_eq!((status(&done), out(&done), err(&done)), (expected, String::new(), format!("vmd: {sentence}\n")));
-    }
-    let piped = given(vmd().current_dir(&folder.0).args(["excerpt", "5", "5", "-", "-o", "out"]), &start());
-    assert_eq!((status(&piped), err(&piped)), (1, "vmd: standard input: refused 1: the file ends early\n".into()));
-    assert_eq!(fs::read(folder.join("out")).unwrap(), b"old");
+    expect_not_saved(&folder, &["excerpt", "5", "5"], &take);
 }
 
 // ---- seasons

@@ -418,4 +418,14 @@ static inline void spoil(struct bytes *b)
     }
 }
 
+/* There was a file of each number that reading answers; tried has how many by their strict number. */
+static inline void expect_each_number(const size_t tried[18])
+{
+    static const uint32_t numbers[] = {VMD_OK, VMD_ENDS_EARLY, VMD_MAGIC_DIFFERS, VMD_BYTES_OVER, VMD_COUNT_OVERSIZED};
+    size_t k;
+    trial("damaged files");
+    for (k = 0; k < sizeof numbers / sizeof *numbers; k++)
+        expect(tried[numbers[k]] > 0, "none is %u", (unsigned)numbers[k]);
+}
+
 #endif

@@ -4,7 +4,7 @@ use mathlib.Core.Path.{_≡_, refl, ap, sym, _∙_}
 use mathlib.Core.Bool.{Bool, true, false}
 use mathlib.Core.List.{List, [], _∷_, _++_}
 use native.Mathlib.Omega.{arith}
-use borrow.Author.Tests.{le-leb, lt-leb}
+use borrow.Author.Tests.{le-leb, lt-leb, leb-true, leb-false}
 use lib.Dec.{leb}
 use lib.ListN.{length}
 use Rattle.vmd_format.specs.Refusal.{first-above-last, output-too-short}
@@ -73,18 +73,32 @@ module _ (m : Manner) where
   back : (first last : ℕ) {s : List ℕ} {t : Take} → Accepted m s t → read-take m (write-take (excerpt first last t)) ≡ given (excerpt first last t)
   back first last {s} {t} h = take-back m (excerpt first last t) (excerpt-well-formed first last (well-formed m h))
 
-  -- "The excerpt of a join, where its counts fit 32 bits, equals the join of the excerpts."
-  pub excerpted-join : (first last : ℕ) {a b : List ℕ} {t u : Take} (ab o₁ o₂ o₃ cd : List ℕ) → first ≤ last → Accepted m a t → Accepted m b u → Fit t u
+  above-declined : (first last : ℕ) (s out : List ℕ) → last < first → excerpted m first last s out ≡ declined first-above-last
+  unfolding excerpt-file unless map-answer fitted file-left
+  above-declined first last s out h = rw (lt-leb first last h)
+
+  -- "The excerpt of a join, where its counts fit 32 bits, equals the join of the excerpts.": both are 18 where the first frame is
+  -- above the last
+  pub excerpted-join : (first last : ℕ) {a b : List ℕ} {t u : Take} (ab o₁ o₂ o₃ cd : List ℕ) → Accepted m a t → Accepted m b u → Fit t u
       → saving.Enough (join t u) ab → Enough first last (join t u) o₁ → Enough first last t o₂ → Enough first last u o₃
       → saving.Enough (join (excerpt first last t) (excerpt first last u)) cd
       → and-then (joined m a b ab) (λ f. excerpted m first last f o₁)
       ≡ and-then (excerpted m first last a o₂) (λ x. and-then (excerpted m first last b o₃) (λ y. joined m x y cd))
   unfolding and-then
-  excerpted-join first last {a} {b} {t} {u} ab o₁ o₂ o₃ cd f h k w n₁ n₂ n₃ n₄ n₅ =
-      rw (joined-is m a b ab (h .reads) (k .reads) w n₁, excerpted-is first last o₂ f h n₃, excerpted-is first last o₃ f k n₄)
-      (excerpted-reads first last (write-take (join t u)) o₁ f (take-back m (join t u) (join-well-formed w (well-formed m h) (well-formed m k))) n₂
-      ∙ ap (λ x. given (write-take x)) (excerpt-join first last t u)
-      ∙ sym (joined-is m (write-take (excerpt first last t)) (write-take (excerpt first last u)) cd (back first last h) (back first last k) (excerpt-fit first last w) n₅))
+  excerpted-join first last {a} {b} {t} {u} ab o₁ o₂ o₃ cd h k w n₁ n₂ n₃ n₄ n₅ = rw (joined-is m a b ab (h .reads) (k .reads) w n₁) (go (leb first last) refl)
+    where
+      joint : List ℕ
+      joint = write-take (join t u)
+
+      go : (x : Bool) → leb first last ≡ x
+          → excerpted m first last joint o₁ ≡ and-then (excerpted m first last a o₂) (λ x. and-then (excerpted m first last b o₃) (λ y. joined m x y cd))
+      go true e =
+          let f = leb-true first last e in
+          rw (excerpted-is first last o₂ f h n₃, excerpted-is first last o₃ f k n₄)
+          (excerpted-reads first last joint o₁ f (take-back m (join t u) (join-well-formed w (well-formed m h) (well-formed m k))) n₂
+          ∙ ap (λ x. given (write-take x)) (excerpt-join first last t u)
+          ∙ sym (joined-is m (write-take (excerpt first last t)) (write-take (excerpt first last u)) cd (back first last h) (back first last k) (excerpt-fit first last w) n₅))
+      go false e = let f = leb-false first last e in rw (above-declined first last a o₂ f) (above-declined first last joint o₁ f)
 
   -- "An excerpt from 0 to 4,294,967,295 is the export."
   pub excerpted-whole : {s : List ℕ} {t : Take} (out other : List ℕ) → Accepted m s t → Enough 0 4294967295 t out → saving.Enough t other
@@ -93,12 +107,12 @@ module _ (m : Manner) where
       excerpted-is 0 4294967295 out (omega arith) h n ∙ ap (λ x. given (write-take x)) (excerpt-whole (well-formed m h)) ∙ sym (exported-is m other h k)
 
   -- an excerpt from g to k of an excerpt from f to l: the excerpt from f + g to the smaller of l and f + k
-  pub excerpted-twice : (f l g k : ℕ) {s : List ℕ} {t : Take} (o₁ o₂ o₃ : List ℕ) → f ≤ l → g ≤ k → f + g ≤ l → Accepted m s t
+  pub excerpted-twice : (f l g k : ℕ) {s : List ℕ} {t : Take} (o₁ o₂ o₃ : List ℕ) → g ≤ k → f + g ≤ l → Accepted m s t
       → Enough f l t o₁ → Enough g k (excerpt f l t) o₂ → Enough (f + g) (min l (f + k)) t o₃
       → and-then (excerpted m f l s o₁) (λ x. excerpted m g k x o₂) ≡ excerpted m (f + g) (min l (f + k)) s o₃
   unfolding and-then
-  excerpted-twice f l g k {s} {t} o₁ o₂ o₃ p q r h n₁ n₂ n₃ =
-      rw (excerpted-is f l o₁ p h n₁)
+  excerpted-twice f l g k {s} {t} o₁ o₂ o₃ q r h n₁ n₂ n₃ =
+      rw (excerpted-is f l o₁ (omega arith) h n₁)
       (excerpted-reads g k (write-take (excerpt f l t)) o₂ q (back f l h) n₂ ∙ ap (λ x. given (write-take x)) (excerpt-twice f l g k t)
       ∙ sym (excerpted-is (f + g) (min l (f + k)) o₃ (omega arith) h n₃))
 
