@@ -102,8 +102,8 @@ enum {
     /* in a season's figures */
     VMD_SEASON_TOTAL = 0,       /* to it the section's index is added: the section's records over all takes */
     VMD_SEASON_RECORDS = 6,     /* the records of all six sections over all takes: the mean's total */
-    VMD_SEASON_BONE_NAMES = 7,  /* each take's distinct bone names, added up */
-    VMD_SEASON_MORPH_NAMES = 8, /* each take's distinct morph names, added up */
+    VMD_SEASON_BONE_NAMES = 7,  /* each take's distinct bone names, up to the first line feed in each, added up */
+    VMD_SEASON_MORPH_NAMES = 8, /* each take's distinct morph names, likewise */
     VMD_SEASON_ACCEPTED = 9,    /* takes accepted */
     VMD_SEASON_REFUSED = 10     /* takes refused */
 };
@@ -247,9 +247,12 @@ void vmd_joined_model(const uint8_t *first, size_t first_len, const uint8_t *sec
  * ---- tidying
  *
  * The canonical file in which each track is sorted by frame and holds only the last record in file order for each frame. Bone
- * and morph tracks are the records of one name (the bytes before its first zero), one track after another in order of first
- * appearance; each other section is one track. The model name is kept. A record is dropped just where a later one of its track
- * has its frame. kept and dropped receive both numbers for each section, which add up to the records read.
+ * and morph tracks are the records of one name, one track after another in order of first appearance; each other section is
+ * one track. The model name is kept. A record is dropped just where a later one of its track has its frame. kept and dropped
+ * receive both numbers for each section, which add up to the records read.
+ *
+ * Names are told apart up to their first line feed (byte 0x0A): two that differ only after it are one name here, and one that
+ * begins with it is the empty name. A record that is kept is written with its full name.
  *
  * scratch is work space: one place for each record of the largest section, whatever stands there. After success these places
  * hold 0, and further ones keep their contents. A scratch of file_len / 9 places is enough for any file.
@@ -259,7 +262,10 @@ void vmd_joined_model(const uint8_t *first, size_t first_len, const uint8_t *sec
  * not. Both calls take up to 512 KiB of stack.
  */
 
-/* How long the tidied file is, and both numbers. Refusals: reading, 3; 13 where no 64-bit length could hold the file. */
+/*
+ * How long the tidied file is, and both numbers, with names told apart as above. Refusals: reading, 3; 13 where no 64-bit
+ * length could hold the file.
+ */
 uint32_t vmd_tidy_size(const uint8_t *file, size_t file_len, uint64_t *scratch, size_t scratch_len, uint64_t *size,
                        uint32_t kept[6], uint32_t dropped[6]);
 uint32_t vmd_tidy_size_lenient(const uint8_t *file, size_t file_len, uint64_t *scratch, size_t scratch_len, uint64_t *size,
@@ -356,9 +362,10 @@ uint32_t vmd_build_animation_from_parts(const uint8_t *model_name, size_t model_
  *
  * What the builder takes, out of an accepted file: each part is written at the front of its buffer, and further elements keep
  * their contents. A name table holds the distinct names of the records, in order of first appearance; each record has its
- * name's index. Cameras, lights, self-shadows and properties, with their IK states, are records in canonical form. sizes
- * receives the number of bone names and of their bytes, and of morph names and of theirs; how long every other part is
- * follows from the opening's counts and number of IK states. The model name has a call of its own, vmd_model_name.
+ * name's index. Names are told apart as raw bytes: here a line feed is a byte like any other. Cameras, lights, self-shadows
+ * and properties, with their IK states, are records in canonical form. sizes receives the number of bone names and of their
+ * bytes, and of morph names and of theirs; how long every other part is follows from the opening's counts and number of IK
+ * states. The model name has a call of its own, vmd_model_name.
  *
  * Floats are written as their 32 bits. To build from them, declare the three columns as float and lend them here as
  * uint32_t *: the two have the same size and alignment, and the builder reads the same memory as floats. Where the builder
@@ -428,8 +435,9 @@ uint32_t vmd_split_animation_into_parts_lenient(const uint8_t *file, size_t file
  * stops at that value. The number of accepted takes goes up by one just where a take was counted. While it is 0 the first take
  * that is accepted sets smallest and largest, whatever stood there. Any numbers may stand in the arrays.
  *
- * vmd_season_add counts names as vmd_split_sizes_lenient does: it takes up to 256 KiB of stack, and takes longest where nearly
- * all names differ. These calls do not refuse.
+ * Names are told apart up to their first line feed, as in tidying: there may be fewer than vmd_split_sizes_lenient gives.
+ * vmd_season_add counts them in passes as that call does: it takes up to 256 KiB of stack, and takes longest where nearly all
+ * names differ. These calls do not refuse.
  */
 
 void vmd_season_none(uint32_t counts[12], uint64_t figures[11]);

@@ -29,6 +29,12 @@ fn name(field: &[u8]) -> &[u8] {
     &field[..field.iter().position(|byte| *byte == 0).unwrap_or(field.len())]
 }
 
+/// What of a field tells its track: the name up to its line feed.
+fn key(field: &[u8]) -> &[u8] {
+    let name = name(field);
+    &name[..name.iter().position(|byte| *byte == b'\n').unwrap_or(name.len())]
+}
+
 /// Where each property frame begins.
 fn property_places(frames: &[u8], count: u32) -> Vec<usize> {
     let mut next = 0;
@@ -43,7 +49,7 @@ fn property_places(frames: &[u8], count: u32) -> Vec<usize> {
 /// Tracks one after another in order of first appearance, each sorted by frame, with the last record of each frame alone.
 fn write_section<'f>(out: &mut Vec<u8>, count: usize, has_names: bool, record: impl Fn(u32) -> &'f [u8], write: Write) {
     let numbers = 0..count as u32;
-    let tracks = if has_names { by_name(numbers, &record) } else { vec![numbers.collect()] };
+    let tracks = if has_names { by_key(numbers, &record) } else { vec![numbers.collect()] };
     let frame = |i: u32| number(&record(i)[if has_names { 15 } else { 0 }..]);
     let count_at = out.len();
     out.extend([0; 4]);
@@ -60,11 +66,11 @@ fn write_section<'f>(out: &mut Vec<u8>, count: usize, has_names: bool, record: i
     out[count_at..count_at + 4].copy_from_slice(&kept.to_le_bytes());
 }
 
-fn by_name<'f>(numbers: std::ops::Range<u32>, record: &impl Fn(u32) -> &'f [u8]) -> Vec<Vec<u32>> {
+fn by_key<'f>(numbers: std::ops::Range<u32>, record: &impl Fn(u32) -> &'f [u8]) -> Vec<Vec<u32>> {
     let mut indices = HashMap::new();
     let mut tracks: Vec<Vec<u32>> = Vec::new();
     for i in numbers {
-        let index = *indices.entry(name(&record(i)[..15])).or_insert(tracks.len());
+        let index = *indices.entry(key(&record(i)[..15])).or_insert(tracks.len());
         if index == tracks.len() {
             tracks.push(Vec::new());
         }

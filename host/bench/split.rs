@@ -76,16 +76,20 @@ fn split_into(file: &[u8], lent: &mut OwnedParts) {
 
 pub fn table(sizes: &[usize], other: &Other) {
     println!("\n## Parts out of a take\n");
-    table_of(Task::SPLITS, sizes, other);
+    table_of(Task::SPLITS, sizes, other, &[]);
 }
 
 pub fn season(size: usize, other: &Other) {
-    println!("\n## Season figures\n\nA take added to a season's figures. The target at 32 MiB is at most 2.2, warm.\n");
-    table_of([Task::Season], &[size], other);
+    println!(
+        "\n## Season figures\n\nA take added to a season's figures. The target at 32 MiB is at most 2.2, warm. With remarks each \
+         name is spelled in three ways.\n"
+    );
+    let with_remarks = [(Kind::Bones, Order::Random), (Kind::Mixed, Order::InTurn), (Kind::Morphs, Order::Random)];
+    table_of([Task::Season], &[size], other, &with_remarks);
 }
 
-/// Takes with 200 names, as shows have them.
-fn table_of<const N: usize>(tasks: [Task; N], sizes: &[usize], other: &Other) {
+/// Takes with 200 names, as shows have them, and some of them with remarks.
+fn table_of<const N: usize>(tasks: [Task; N], sizes: &[usize], other: &Other, with_remarks: &[(Kind, Order)]) {
     println!(
         "Takes with 200 names of 4 to 10 bytes. Medians of {} rounds, as multiples of a copy of the file in the same state of \
          the caches.",
@@ -101,12 +105,16 @@ fn table_of<const N: usize>(tasks: [Task; N], sizes: &[usize], other: &Other) {
         (Kind::Bones, Order::Random),
         (Kind::Morphs, Order::Random),
     ];
-    for (kind, order) in takes {
+    let without = takes.iter().map(|&(kind, order)| (kind, order, false));
+    for (kind, order, remarks) in without.chain(with_remarks.iter().map(|&(kind, order)| (kind, order, true))) {
         for &size in sizes {
-            let mut case = Case::new(takes::with_names(kind, 200, order, size));
-            let times = case.times(tasks, rounds(size), other);
+            let (file, names) = match remarks {
+                true => (takes::with_remarks(kind, order, size), format!("{}, remarks", order.name())),
+                false => (takes::with_names(kind, 200, order, size), order.name().into()),
+            };
+            let times = Case::new(file).times(tasks, rounds(size), other);
             let cells = times.as_flattened().iter().map(|rounds| cell(rounds.ratio()));
-            row([kind.name().into(), order.name().into(), shown(size)].into_iter().chain(cells));
+            row([kind.name().into(), names, shown(size)].into_iter().chain(cells));
         }
     }
 }

@@ -288,6 +288,22 @@ pub fn with_names(kind: Kind, names: usize, order: Order, size: usize) -> Vec<u8
     file_with(&c, &(0..names).map(|n| Names::Padded.field(n)).collect::<Vec<_>>())
 }
 
+/// The same with 200 names, each of them spelled in three ways.
+pub fn with_remarks(kind: Kind, order: Order, size: usize) -> Vec<u8> {
+    let mut c = columns(kind.counts(size), Names::Padded);
+    c.bone_indices = order.indices(c.bone_frames.len(), 600);
+    c.morph_indices = order.indices(c.morph_frames.len(), 600);
+    file_with(&c, &(0..600).map(|n| remark_field(n % 200, n / 200)).collect::<Vec<_>>())
+}
+
+/// The field of a name without a remark, or with one of two after a line feed.
+fn remark_field(n: usize, remark: usize) -> [u8; 15] {
+    let mut field = Names::Padded.field(n);
+    let (remark, end) = ([&b""[..], b"\n1", b"\nleft"][remark], Names::Padded.len(n));
+    field[end..end + remark.len()].copy_from_slice(remark);
+    field
+}
+
 /// A take of so many bones or morphs, each with a name of its own. The names' bytes rise with their numbers.
 pub fn all_different(kind: Kind, order: Order, records: usize) -> Vec<u8> {
     let counts = if kind == Kind::Bones { [records, 0, 0, 0, 0] } else { [0, records, 0, 0, 0] };
@@ -434,9 +450,36 @@ impl Keys {
     }
 }
 
-/// A canonical take of so many records of some sections, in the file's order. Those of bones and morphs have 200 names, or
-/// each a name of its own.
-pub fn with_keys(sections: &[(Section, usize)], keys: Keys, all_different: bool) -> Vec<u8> {
+/// The names of bones and morphs: 200, the same each spelled in three ways, or each record's own.
+#[derive(Clone, Copy, PartialEq)]
+pub enum Naming {
+    Few,
+    Remarks,
+    AllDiffer,
+}
+
+impl Naming {
+    pub const ALL: [Naming; 3] = [Naming::Few, Naming::Remarks, Naming::AllDiffer];
+
+    pub fn name(self) -> &'static str {
+        match self {
+            Naming::Few => "200",
+            Naming::Remarks => "200, with remarks",
+            Naming::AllDiffer => "all differ",
+        }
+    }
+
+    fn field(self, n: usize, random: &mut Random) -> [u8; 15] {
+        match self {
+            Naming::Few => Names::Padded.field(n),
+            Naming::Remarks => remark_field(n, random.next() as usize % 3),
+            Naming::AllDiffer => different_field(n),
+        }
+    }
+}
+
+/// A canonical take of so many records of some sections, in the file's order.
+pub fn with_keys(sections: &[(Section, usize)], keys: Keys, naming: Naming) -> Vec<u8> {
     let mut random = Random(2_463_534_242);
     let mut file = b"Vocaloid Motion Data 0002\0\0\0\0\0dancer".to_vec();
     file.resize(50, 0);
@@ -445,12 +488,12 @@ pub fn with_keys(sections: &[(Section, usize)], keys: Keys, all_different: bool)
         file.extend(found.map_or(0, |(_, records)| *records as u32).to_le_bytes());
         let Some(&(section, records)) = found else { continue };
         let names = match section.has_names() {
-            true if all_different => records,
+            true if naming == Naming::AllDiffer => records,
             true => 200,
             false => 1,
         };
         for (name, frame) in keys.of(records, names, &mut random) {
-            let field = if all_different { different_field(name) } else { Names::Padded.field(name) };
+            let field = naming.field(name, &mut random);
             section.record(&mut file, field, frame, &mut random);
         }
     }
@@ -477,7 +520,7 @@ pub fn kind_to_cut(kind: Kind, size: usize) -> [Vec<u8>; 2] {
 
 /// One with records of one section.
 pub fn section_to_cut(section: Section, size: usize) -> [Vec<u8>; 2] {
-    to_cut(with_keys(&[(section, section.records(size))], Keys::Tidy, false))
+    to_cut(with_keys(&[(section, section.records(size))], Keys::Tidy, Naming::Few))
 }
 
 /// A file of the newer edition with all six sections, and other frames: each by the record's number in its section and how

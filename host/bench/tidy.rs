@@ -6,7 +6,7 @@ use std::hint::black_box;
 use vmd::{Refusal, Take};
 
 use crate::measure::{after, median, seconds};
-use crate::takes::{self, Keys, Section};
+use crate::takes::{self, Keys, Naming, Section};
 use crate::{Rounds, cell, head, plain, ratio, row};
 
 /// What is measured.
@@ -80,20 +80,23 @@ impl Case {
 
 const ROUNDS: usize = 5;
 
-/// A take that is measured: its sections with their records, in which order these come, and whether it is joined with itself.
+/// A take that is measured: its sections with their records, in which order these come, whether their names have remarks, and
+/// whether it is joined with itself.
 struct Measured {
     sections: Vec<(Section, usize)>,
     keys: Keys,
+    remarks: bool,
     twice: bool,
 }
 
 impl Measured {
     fn new(section: Section, records: usize, keys: Keys) -> Measured {
-        Measured { sections: vec![(section, records)], keys, twice: false }
+        Measured { sections: vec![(section, records)], keys, remarks: false, twice: false }
     }
 
     fn file(&self) -> Vec<u8> {
-        let file = takes::with_keys(&self.sections, self.keys, false);
+        let naming = if self.remarks { Naming::Remarks } else { Naming::Few };
+        let file = takes::with_keys(&self.sections, self.keys, naming);
         if self.twice { vmd::join(&file, &file).unwrap() } else { file }
     }
 
@@ -104,7 +107,9 @@ impl Measured {
     }
 
     fn order(&self) -> String {
-        format!("{}{}", self.keys.name(), if self.twice { ", joined with itself" } else { "" })
+        let (remarks, twice) =
+            (if self.remarks { ", remarks" } else { "" }, if self.twice { ", joined with itself" } else { "" });
+        format!("{}{remarks}{twice}", self.keys.name())
     }
 }
 
@@ -114,12 +119,13 @@ fn measured(size: usize) -> Vec<Measured> {
     let mut all = Vec::new();
     for section in [Section::Bones, Section::Morphs] {
         all.extend([1, 2, 4].map(|part| of(section, part, Keys::Shuffled)));
+        all.extend([Keys::Shuffled, Keys::Tidy].map(|keys| Measured { remarks: true, ..of(section, 1, keys) }));
     }
     all.push(Measured { twice: true, ..of(Section::Bones, 2, Keys::Tidy) });
     let mixed = [(Section::Bones, 60), (Section::Morphs, 30), (Section::Cameras, 10)];
     let mixed = mixed.map(|(section, percent)| (section, section.records(size / 100 * percent)));
     all.push(of(Section::Bones, 1, Keys::Tidy));
-    all.push(Measured { sections: mixed.to_vec(), keys: Keys::Tidy, twice: false });
+    all.push(Measured { sections: mixed.to_vec(), keys: Keys::Tidy, remarks: false, twice: false });
     all.push(of(Section::Morphs, 1, Keys::Tidy));
     let others = [Section::Cameras, Section::Lights, Section::SelfShadows, Section::Properties, Section::IkStates];
     all.extend(others.map(|section| of(section, 1, Keys::Tidy)));
@@ -130,10 +136,11 @@ fn measured(size: usize) -> Vec<Measured> {
 pub fn table(size: usize) {
     println!("\n## Tidying\n");
     println!(
-        "Bones and morphs have 200 names, and no two records of one the same frame; of a take that is joined with itself the half \
-         is dropped. Medians of {ROUNDS} rounds, warm: milliseconds, and as multiples of a copy of the file and of the plain Rust. \
-         The library's calls are lent their memory; `vmd::tidy` and the plain Rust allocate theirs. The targets at 32 MiB are \
-         1.5 times the plain Rust for shuffled bones, and 6 copies for takes that are tidy."
+        "Bones and morphs have 200 names, with remarks each spelled in three ways, and no two records of one the same frame; of \
+         a take that is joined with itself the half is dropped. Medians of {ROUNDS} rounds, warm: milliseconds, and as multiples \
+         of a copy of the file and of the plain Rust. The library's calls are lent their memory; `vmd::tidy` and the plain Rust \
+         allocate theirs. The targets at 32 MiB are 1.5 times the plain Rust for shuffled bones, and 6 copies for takes that are \
+         tidy."
     );
     let by_copy = Task::ALL.map(|task| format!("{}, by a copy", task.name()));
     let by_plain = [Task::Tidy, Task::Owned].map(|task| format!("{}, by plain Rust", task.name()));
@@ -171,24 +178,14 @@ pub fn refused(size: usize) {
          differ) and that are shuffled. The target at 32 MiB is 5 seconds for bones of 200 names."
     );
     head(["take", "names"].into_iter().chain(Keys::ALL.map(Keys::name)));
-    for (section, all_different) in [
-        (Section::Bones, false),
-        (Section::Bones, true),
-        (Section::Morphs, false),
-        (Section::Morphs, true),
-        (Section::Cameras, false),
-        (Section::Lights, false),
-        (Section::SelfShadows, false),
-        (Section::Properties, false),
-    ] {
+    let named =
+        [Section::Bones, Section::Morphs].into_iter().flat_map(|section| Naming::ALL.map(|naming| (section, naming)));
+    let others = [Section::Cameras, Section::Lights, Section::SelfShadows, Section::Properties];
+    for (section, naming) in named.chain(others.map(|section| (section, Naming::Few))) {
         let records = section.records(size);
-        let file = |keys| takes::with_keys(&[(section, records)], keys, all_different);
+        let file = |keys| takes::with_keys(&[(section, records)], keys, naming);
         let cells = Keys::ALL.map(|keys| format!("{:.3}", refusal(file(keys))));
-        let names = match section.has_names() {
-            true if all_different => "all differ",
-            true => "200",
-            false => "-",
-        };
+        let names = if section.has_names() { naming.name() } else { "-" };
         row([format!("{records} {}", section.name()), names.into()].into_iter().chain(cells));
     }
 }

@@ -70,6 +70,9 @@ allows it. A take that is read-only is not replaced, by root neither. A file .vm
 killed; the next one that saves in its folder removes it, unless it is OUT, was read, or something came through a pipe.
 Where there is no room for a save, such files may be removed by hand.
 
+To 'tidy' and 'season' two names are one bone, or one morph, where they agree up to the first line feed: some editors add one
+and a remark to a name. The records that 'tidy' keeps have their whole names.
+
 In the figures of a season a take that is refused counts as refused and nowhere else. A file that cannot be read counts
 nowhere, not as refused either: the figures are those of the other files. With several files a terminal shows how far the
 command is.

@@ -52,8 +52,9 @@ pub struct Parts<'a> {
 /// What [`Take::parts`](crate::Take::parts) gives: the parts of a take, each in memory of its own, to be changed and built
 /// again.
 ///
-/// A name table has the distinct names of its records, in order of first appearance. Camera, light, self-shadow and property
-/// records are in canonical form.
+/// A name table has the distinct names of its records, in order of first appearance. These are whole names: two that differ
+/// after a line feed alone, which are one track to [`tidy`](crate::tidy), are both there. Camera, light, self-shadow and
+/// property records are in canonical form.
 ///
 /// ```
 /// # let names = vmd::NameTable::new([&b"smile"[..], b"blink"]);

@@ -6,11 +6,12 @@ use crate::header::indices::*;
 /// Takes are read in the lenient manner alone ([`Manner::Lenient`](crate::Manner::Lenient)).
 ///
 /// A take that is refused counts in `refused` and adds nothing else. So does one with which any other of the 64-bit figures
-/// would pass its largest value; `refused` stops at its own. Any numbers may stand in the fields. Interpolation bytes, and the
-/// bytes after a name's zero, make no difference.
+/// would pass its largest value; `refused` stops at its own. Any numbers may stand in the fields. Interpolation bytes, the
+/// bytes after a name's zero, and a remark after its first line feed (byte 0x0A) make no difference: names are told apart as
+/// [`tidy`](crate::tidy) does.
 ///
 /// ```
-/// # let names = vmd::NameTable::new([&b"smile"[..], b"blink"]);
+/// # let names = vmd::NameTable::new([&b"smile"[..], b"blink", b"blink\nfast"]);
 /// # let morphs = |indices: &[u32]| {
 /// #     vmd::Parts {
 /// #         morph_name_bytes: &names.bytes,
@@ -22,9 +23,9 @@ use crate::header::indices::*;
 /// #     }
 /// #     .build()
 /// # };
-/// # let (first, second) = (morphs(&[0, 1, 1])?, morphs(&[1, 1])?);
+/// # let (first, second) = (morphs(&[0, 1, 2])?, morphs(&[1, 1])?);
 /// let mut season = vmd::Season::new();
-/// assert!(season.add(&first)); // morphs: smile, blink, blink
+/// assert!(season.add(&first)); // morphs: smile, blink, and blink with a remark
 /// assert!(season.add(&second)); // morphs: blink, blink
 /// assert!(!season.add(b"no take"));
 /// assert_eq!((season.accepted, season.refused), (2, 1));

@@ -55,26 +55,27 @@ impl TidiedSections {
 /// last in the file's order stays, and each track is sorted by frame.
 ///
 /// The bone frames of one name are a track, and the morph frames of one name; the tracks of a section come one after another,
-/// in order of first appearance. Names are the bytes before the first zero. Each other section is one track. The model name is
-/// kept. Tidying a tidied take changes nothing.
+/// in order of first appearance. Names are the bytes before the first zero; those that agree up to their first line feed (byte
+/// 0x0A), after which some editors add a remark, are one name here, and a record that stays keeps its own with the remark. Each
+/// other section is one track. The model name is kept. Tidying a tidied take changes nothing.
 ///
 /// ```
-/// # let names = vmd::NameTable::new([&b"smile"[..], b"blink"]);
+/// # let names = vmd::NameTable::new([&b"smile"[..], b"blink", b"blink\nfast"]);
 /// # let file = vmd::Parts {
 /// #     morph_name_bytes: &names.bytes,
 /// #     morph_name_ends: &names.ends,
-/// #     morph_name_indices: &[1, 0, 1, 1],
+/// #     morph_name_indices: &[1, 0, 1, 2],
 /// #     morph_frames: &[60, 30, 0, 60],
 /// #     morph_weights: &[0.25, 0.5, 0.75, 1.0],
 /// #     ..Default::default()
 /// # }
 /// # .build()?;
-/// // morphs: blink 0.25 at frame 60, smile 0.5 at 30, blink 0.75 at 0, blink 1.0 at 60
+/// // morphs: blink 0.25 at frame 60, smile 0.5 at 30, blink 0.75 at 0, and with a remark 1.0 at 60
 /// let tidied = vmd::tidy(&file)?;
 /// assert_eq!(tidied.sections.morphs, vmd::TidiedSection { kept: 3, dropped: 1 });
 /// let take = vmd::Take::open(&tidied.file)?;
 /// let morphs = take.morph_frames().map(|morph| (morph.name, morph.frame, morph.weight));
-/// assert!(morphs.eq([(&b"blink"[..], 0, 0.75), (b"blink", 60, 1.0), (b"smile", 30, 0.5)]));
+/// assert!(morphs.eq([(&b"blink"[..], 0, 0.75), (b"blink\nfast", 60, 1.0), (b"smile", 30, 0.5)]));
 /// assert_eq!(vmd::tidy(&tidied.file)?.file, tidied.file);
 /// # Ok::<(), vmd::Error>(())
 /// ```

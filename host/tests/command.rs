@@ -8,6 +8,7 @@ use std::os::unix::ffi::OsStrExt;
 use std::os::unix::process::CommandExt;
 use std::process::{Command, Output, Stdio};
 
+use common::records::{Record, Records};
 use common::{Folder, as_older, at_frames, bones, counts, err, older_start, out, start, status, vmd, vmd_under, vmd_with};
 
 /// The output of a command that reads these bytes on its standard input.
@@ -294,6 +295,22 @@ fn tidies_a_take() {
         assert_eq!(fs::read(folder.join("take")).unwrap(), tidied);
     }
     assert_eq!(folder.names(), ["out", "take"]);
+}
+
+/// Names that agree up to the line feed are one bone: of those at one frame the last stays, under its whole name.
+#[test]
+fn tidies_a_take_with_remarks() {
+    let bones = |records: &[(&[u8], u32)]| {
+        Records::of(0, records.iter().map(|(name, frame)| Record::bone(name, *frame, *frame as u8)).collect()).saved()
+    };
+    let take = bones(&[(b"arm\nleft", 5), (b"leg", 5), (b"arm", 3), (b"arm\nright", 5), (b"arm\rleft", 5)]);
+    let tidied = bones(&[(b"arm", 3), (b"arm\nright", 5), (b"leg", 5), (b"arm\rleft", 5)]);
+    let done = given(vmd().args(["tidy", "-", "-o", "-"]), &take);
+    let lines = told([[4, 1], [0, 0], [0, 0], [0, 0], [0, 0], [0, 0]]);
+    assert_eq!((status(&done), err(&done), done.stdout), (0, lines, tidied));
+    let done = given(vmd().args(["season", "-"]), &take);
+    assert_eq!((status(&done), err(&done)), (0, String::new()));
+    assert!(out(&done).contains("\ndistinct bone names, added up over the takes: 3\n"), "{}", out(&done));
 }
 
 /// A take that was joined with itself has each key twice.
@@ -956,6 +973,7 @@ fn usage() {
         "from 0 to 4294967295",
         "the first model name that is not empty",
         "vmd season FILE..",
+        "agree up to the first line feed",
         "--lenient                       an option of 'export', 'join', 'tidy' and 'excerpt'",
         "every section after it, IK frames among them",
         "'list' and 'season' save nothing and always read so",

@@ -6,6 +6,7 @@ use std::collections::BTreeSet;
 use std::ops::Range;
 use std::thread;
 
+use common::records::{key, random_take};
 use common::{BOTH, Random, as_older, at_frames, bones, counts, examples, older_start, refused_by_all, start, widened};
 use vmd::{
     Error, Figures, IkState, Manner, Mean, NameTable, OwnedParts, Parts, PartsMut, PropertyFrame, Refusal, Season,
@@ -1025,6 +1026,8 @@ fn name_tables_of_a_take() {
     expect(&[full, cut, other, full], &[full, cut, other], &[0, 1, 2, 0]);
     let distinct: [&[u8]; 5] = [b"\xFF\x80", b"\x0A", b"\xFF", b"a\x0Ab", b"a"];
     expect(&distinct, &distinct, &[0, 1, 2, 3, 4]);
+    // whole names, also where tidying takes them for one
+    expect(&[b"A", b"A\nx", b"A\ny", b"A\nx"], &[b"A", b"A\nx", b"A\ny"], &[0, 1, 2, 1]);
 }
 
 /// Names in no order, none of them twice.
@@ -1248,8 +1251,9 @@ fn expected(files: &[Vec<u8>]) -> Season {
         }
     });
     let [bones, morphs, cameras, lights, self_shadows, properties] = sections;
-    let bone_names = takes.iter().map(|take| take.bone_frames().map(|bone| bone.name).collect::<BTreeSet<_>>().len());
-    let morph_names = takes.iter().map(|take| take.morph_frames().map(|morph| morph.name).collect::<BTreeSet<_>>().len());
+    let bone_names = takes.iter().map(|take| take.bone_frames().map(|bone| key(bone.name)).collect::<BTreeSet<_>>().len());
+    let morph_names =
+        takes.iter().map(|take| take.morph_frames().map(|morph| key(morph.name)).collect::<BTreeSet<_>>().len());
     Season {
         bones,
         morphs,
@@ -1305,6 +1309,7 @@ fn every_figure_of_a_season() {
 fn seasons_of_takes() {
     let mut files = examples();
     files.extend([six_sections(), counts(&[0]), bones(7, 1), property_take(3), morphs(&[b"a\0b", b"a", b"b"])]);
+    files.extend((1..40).map(|seed| random_take(&mut Random::new(seed)).file()));
     for n in 0..=files.len() {
         assert_eq!(season_of(files[..n].iter().map(Vec::as_slice)), expected(&files[..n]));
     }
@@ -1314,6 +1319,29 @@ fn seasons_of_takes() {
     let season = season_of(forty.iter().map(Vec::as_slice));
     assert_eq!(season, expected(&forty));
     assert_eq!((season.records, season.mean()), (360, Mean { quotient: 9, remainder: 0 }));
+}
+
+/// Names of one take that agree up to the first line feed are one.
+#[test]
+fn remarks_in_a_season() {
+    let expect = |names: &[&[u8]], distinct: u64| {
+        let (of_bones, of_morphs) = (season_of([&named_bones(names)[..]]), season_of([&morphs(names)[..]]));
+        assert_eq!([of_bones.bone_names, of_bones.morph_names], [distinct, 0], "{names:?}");
+        assert_eq!([of_morphs.bone_names, of_morphs.morph_names], [0, distinct], "{names:?}");
+    };
+    expect(&[b"A", b"A\nx", b"A\ny"], 1);
+    expect(&[b"A\nx", b"B", b"A\n\n", b"B\nx"], 2);
+    expect(&[b"", b"\n", b"\nA", b"A"], 2);
+    expect(&[b"A\0\nx", b"A", b"Ax"], 2);
+    expect(&[b"A", b"A\rx", b"A\x0Bx", b"A\x8Ax", b"A\tx"], 5);
+    for place in 0..15 {
+        let name = &b"fifteen letters"[..place];
+        let spelled = [b"\n!", b"\n?", b"\0\n", b"!\n"].map(|after| [name, after].concat()[..15.min(place + 2)].to_vec());
+        expect(&spelled.each_ref().map(Vec::as_slice), 2);
+    }
+    let takes = [morphs(&[b"A\nx", b"A\ny"]), named_bones(&[b"A\nx"]), morphs(&[b"A", b"B\nx"])];
+    let season = season_of(takes.iter().map(Vec::as_slice));
+    assert_eq!((season.bone_names, season.morph_names), (1, 1 + 2));
 }
 
 /// Property frames with as many IK states as their numbers: IK states and their names are no figures.
@@ -1338,7 +1366,7 @@ fn refused_takes_alone() {
     }
 }
 
-/// Interpolation bytes and the bytes after a name's zero make no difference, nor does the order of the names.
+/// Interpolation bytes and the bytes after a name's zero or line feed make no difference, nor does the order of the names.
 #[test]
 fn takes_with_equal_figures() {
     let of = |file: &[u8]| season_of([file]);
@@ -1354,6 +1382,7 @@ fn takes_with_equal_figures() {
         let figures = of(&take(&[b"arm", b"arm\0x", b"leg"]));
         assert_eq!(of(&take(&[b"leg\0arm", b"arm\0leg", b"arm"])), figures);
         assert_eq!(of(&take(&[b"leg", b"arm", b"leg"])), figures);
+        assert_eq!(of(&take(&[b"leg\narm", b"arm\nleg", b"arm\n"])), figures);
         assert_ne!(of(&take(&[b"arm", b"arm\x01", b"leg"])), figures);
         assert_ne!(of(&take(&[b"arm", b"arm", b"arm\0leg"])), figures);
     }

@@ -20,13 +20,13 @@ impl Records {
     }
 }
 
-/// Tracks are the records of one name, one after another in order of first appearance. Each is sorted by frame and holds only
-/// the last record in file order for each frame.
+/// Tracks are the records whose names agree up to the line feed, one after another in order of first appearance. Each is sorted
+/// by frame and holds only the last record in file order for each frame.
 fn tidied(section: &[Record]) -> Vec<&Record> {
     let mut numbers = HashMap::new();
     let mut tracks: Vec<BTreeMap<u32, &Record>> = Vec::new();
     for record in section {
-        let number = *numbers.entry(record.name()).or_insert(tracks.len());
+        let number = *numbers.entry(record.key()).or_insert(tracks.len());
         if number == tracks.len() {
             tracks.push(BTreeMap::new());
         }
@@ -38,7 +38,7 @@ fn tidied(section: &[Record]) -> Vec<&Record> {
 /// Dropped records are those with a later record of the same track and frame.
 fn dropped(section: &[Record]) -> u32 {
     let mut later = HashSet::new();
-    section.iter().rev().filter(|record| !later.insert((record.name(), record.frame))).count() as u32
+    section.iter().rev().filter(|record| !later.insert((record.key(), record.frame))).count() as u32
 }
 
 // ---- what is to hold of every take
@@ -223,12 +223,67 @@ fn names_end_before_their_first_zero() {
     assert_eq!(tidied.file[54..69], padded(b"arm", 15, 0));
 }
 
+/// Names that agree up to the first line feed are one track, whose records keep their own.
 #[test]
-fn a_line_feed_is_a_byte_of_a_name() {
-    let found =
-        tidied_morphs(&[(b"smile", 5, 0.1), (b"smile\nleft", 5, 0.2), (b"smile\n", 5, 0.3), (b"smile\nleft", 5, 0.4)]);
-    let expected: [(&[u8], f32); 3] = [(b"smile", 0.1), (b"smile\nleft", 0.4), (b"smile\n", 0.3)];
-    assert_eq!(found, expected.map(|(name, weight)| (name.to_vec(), 5, weight)));
+fn remarks_after_a_line_feed() {
+    let expect = |records: &[(&[u8], u32, f32)], kept: &[(&[u8], u32, f32)]| {
+        let kept: Vec<_> = kept.iter().map(|(name, frame, weight)| (name.to_vec(), *frame, *weight)).collect();
+        assert_eq!(tidied_morphs(records), kept);
+    };
+    expect(&[(b"A", 5, 0.1), (b"A\nx", 5, 0.2), (b"A\ny", 5, 0.3)], &[(b"A\ny", 5, 0.3)]);
+    expect(&[(b"A\nx", 5, 0.1), (b"A\ny", 5, 0.2), (b"A", 5, 0.3)], &[(b"A", 5, 0.3)]);
+    expect(
+        &[(b"A", 5, 0.1), (b"A\nx", 7, 0.2), (b"A\ny", 5, 0.3), (b"A\nx", 3, 0.4)],
+        &[(b"A\nx", 3, 0.4), (b"A\ny", 5, 0.3), (b"A\nx", 7, 0.2)],
+    );
+    // where the name with which a track first appears is not kept its place is still there, also when it is tidied again
+    expect(
+        &[(b"B\nx", 1, 0.1), (b"A", 1, 0.2), (b"B", 1, 0.3), (b"B\ny", 0, 0.4)],
+        &[(b"B\ny", 0, 0.4), (b"B", 1, 0.3), (b"A", 1, 0.2)],
+    );
+    // the first of several; what begins with one is no name
+    expect(&[(b"A\nx", 5, 0.1), (b"A\n\nx", 5, 0.2), (b"A\nx\n", 5, 0.3)], &[(b"A\nx\n", 5, 0.3)]);
+    expect(&[(b"", 5, 0.1), (b"\nA", 5, 0.2), (b"\n", 5, 0.3), (b"A", 5, 0.4)], &[(b"\n", 5, 0.3), (b"A", 5, 0.4)]);
+    // none after the zero, and no other byte
+    expect(&[(b"A\0\nx", 5, 0.1), (b"A\0x\n", 5, 0.2), (b"Ax", 5, 0.3)], &[(b"A", 5, 0.2), (b"Ax", 5, 0.3)]);
+    let others: [&[u8]; 6] = [b"A", b"A\rx", b"A\x0Bx", b"A\x8Ax", b"A\tx", b"A x"];
+    let apart = others.map(|name| (name, 5, 0.1));
+    expect(&apart, &apart);
+}
+
+#[test]
+fn a_line_feed_at_each_place_of_a_name() {
+    let letters = b"fifteen letters";
+    for place in 0..15 {
+        let spelled = |after: &[u8]| [&letters[..place], after, &[b'!'; 15]].concat()[..15].to_vec();
+        let names = [spelled(b"\n"), spelled(b"\n?\n"), spelled(b"\0\n"), spelled(b"?")];
+        for section in [0, 1] {
+            let record = |field: &Vec<u8>| match section {
+                0 => Record::bone(field, 5, 7),
+                _ => Record::morph(field, 5, 0.5),
+            };
+            let tidied = expect_as_defined(&Records::of(section, names.iter().map(record).collect()));
+            assert_eq!(all(&tidied.sections)[section], TidiedSection { kept: 2, dropped: 2 }, "place {place}");
+        }
+    }
+}
+
+/// What the second half says of a frame is kept, in its own spelling.
+#[test]
+fn a_join_whose_halves_spell_the_remark_differently() {
+    let half = |remark: &str, byte: u8| {
+        let bone = |name: &str, frame| Record::bone(format!("{name}\n{remark}").as_bytes(), frame, byte);
+        Records::of(0, vec![bone("arm", 9), bone("leg", 5), bone("arm", byte.into()), bone("arm", 9)])
+    };
+    let (first, second) = (half("left", 1), half("right", 2));
+    let joined = vmd::join(&first.file(), &second.file()).unwrap();
+    expect_join_law(&first.file(), &second.file());
+    expect_join_law(&second.file(), &as_older(&first.file()));
+    let tidied = expect_as_defined(&Records::of(0, [&first.sections[0][..], &second.sections[0]].concat()));
+    assert_eq!(vmd::tidy(&joined).unwrap(), tidied);
+    let take = Take::open(&tidied.file).unwrap();
+    let expected: [(&[u8], u32); 4] = [(b"arm\nleft", 1), (b"arm\nright", 2), (b"arm\nright", 9), (b"leg\nright", 5)];
+    assert!(take.bone_frames().map(|bone| (bone.name, bone.frame)).eq(expected));
 }
 
 /// As it is read: what stands after its zero is not written. A name that fills its field ends with it.
@@ -387,8 +442,10 @@ fn thousands_of_names() {
 fn hundreds_of_names_and_frames() {
     let [rising, falling, shuffled, _] = orders(40_000);
     for order in [rising, falling, shuffled] {
-        let record = |i: u32| Record::bone(format!("bone {}", i % 200).as_bytes(), i / 200 * 2 / 3, i as u8);
-        expect_as_defined(&Records::of(0, order.into_iter().map(record).collect()));
+        let bone = |name: String, i: u32| Record::bone(name.as_bytes(), i / 200 * 2 / 3, i as u8);
+        expect_as_defined(&Records::of(0, order.iter().map(|&i| bone(format!("bone {}", i % 200), i)).collect()));
+        let spelled = |i: u32| format!("bone {}{}", i % 200, ["", "\n1", "\n22"][i as usize % 3]);
+        expect_as_defined(&Records::of(0, order.iter().map(|&i| bone(spelled(i), i)).collect()));
     }
 }
 

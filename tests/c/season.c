@@ -7,6 +7,7 @@
 #include "check.h"
 #include "damaged.h"
 #include "expect.h"
+#include "names.h"
 #include "random.h"
 #include "vmd.h"
 
@@ -36,14 +37,13 @@ static struct addition of_a_refused_one(void)
     return a;
 }
 
-/* How many of the names are not the same as one before them. */
-static uint64_t distinct(const struct name *names, size_t n)
+/* How many of the names are not of the same track as one before them. */
+static size_t distinct(const struct name *names, size_t n)
 {
-    uint64_t different = 0;
-    size_t i, j;
+    size_t i, j, different = 0;
     for (i = 0; i < n; i++) {
         for (j = 0; j < i; j++)
-            if (names[j].len == names[i].len && memcmp(names[j].at, names[i].at, names[i].len) == 0)
+            if (same_track(&names[j], &names[i]))
                 break;
         different += j == i;
     }
@@ -211,7 +211,7 @@ static struct season random_season(void)
     return s;
 }
 
-/* Few letters, so that names are the same, and one the beginning of another. */
+/* Few letters, so that names are the same, one the beginning of another, and many with a remark. */
 static struct name random_name(void)
 {
     static const uint8_t letters[4] = {'a', 0x0A, 0xFF, 1};
@@ -521,10 +521,10 @@ static void damaged_takes(void)
 
 /* ---- bytes that are not counted */
 
-/* Names of each kind that repeat, of no, few and fifteen bytes. */
+/* Names of each kind that repeat, of no, few and fifteen bytes, and one with a remark. */
 static struct take repeated_names_take(void)
 {
-    static const char *const names[4] = {"arm", "", "arm", "fifteen letters"};
+    static const char *const names[4] = {"arm", "", "arm\nleft", "fifteen letters"};
     struct take t = distinct_take(5, 4, 4, 3, 1, 1, 4);
     size_t i;
     for (i = 0; i < 4; i++) {
@@ -549,11 +549,23 @@ static void change(const char *what, uint8_t *from, const uint8_t *to, const str
     }
 }
 
-static void change_after_name(const char *what, uint8_t *at, size_t width, const struct addition *a)
+/* What comes after a name's zero; and of a bone's or a morph's, which are counted, after its line feed. */
+static void change_after(int byte, const char *what, uint8_t *at, size_t width, const struct addition *a)
 {
-    uint8_t *end = memchr(at, 0, width);
+    uint8_t *end = memchr(at, byte, width);
     if (end != NULL)
         change(what, end + 1, at + width, a);
+}
+
+static void change_after_name(const char *what, uint8_t *at, size_t width, const struct addition *a)
+{
+    change_after(0, what, at, width, a);
+}
+
+static void change_in_field(const char *what, uint8_t *at, const struct addition *a)
+{
+    change_after_name(what, at, FIELD, a);
+    change_after(LINE_FEED, what, at, FIELD, a);
 }
 
 static void bytes_not_counted(enum edition edition)
@@ -575,9 +587,9 @@ static void bytes_not_counted(enum edition edition)
     change("after the magic", file.at + MAGIC_TOLD, file.at + MAGIC_FIELD, &a);
     change_after_name("a model name", file.at + MAGIC_FIELD, editions[edition].model_width, &a);
     for (i = 0; i < t.counts[0]; i++)
-        change_after_name("a bone's name", file.at + o.places[0] + 111 * i, 15, &a);
+        change_in_field("a bone's name", file.at + o.places[0] + 111 * i, &a);
     for (i = 0; i < t.counts[1]; i++)
-        change_after_name("a morph's name", file.at + o.places[1] + 23 * i, 15, &a);
+        change_in_field("a morph's name", file.at + o.places[1] + 23 * i, &a);
     for (i = 0; i < o.n_frames; i++)
         for (j = 0; j < t.properties[i].n_states; j++)
             change_after_name("an IK name", file.at + o.frames[i] + 9 + 21 * j, 20, &a);
@@ -587,55 +599,80 @@ static void bytes_not_counted(enum edition edition)
 
 enum { SOME = 2200 };
 
-/* A take of records with these names, so many of them different; bytes after a name's zero differ from record to record. */
-static void try_names(const char *what, const struct name *names, size_t n, int morphs, uint64_t different)
+/* A take of records with these names, so many of them different. */
+static void try_fields(const char *what, const struct field *fields, size_t n, int morphs, size_t different)
 {
+    struct name model = name_in(&fields[0]);
     struct addition a;
     struct season s;
-    size_t i, k;
+    struct bone bone;
+    struct morph morph;
+    size_t i;
     trial("%s: %zu %s", what, n, morphs ? "morphs" : "bones");
+    memset(&bone, 0, sizeof bone);
+    memset(&morph, 0, sizeof morph);
     memset(&a, 0, sizeof a);
     a.to[VMD_SEASON_TOTAL + (morphs ? VMD_MORPHS : VMD_BONES)] = a.to[VMD_SEASON_RECORDS] = n;
     a.to[morphs ? VMD_SEASON_MORPH_NAMES : VMD_SEASON_BONE_NAMES] = different;
     a.to[VMD_SEASON_ACCEPTED] = 1;
     file.len = 0;
-    put_header(&file, &names[0], RAW);
+    put_header(&file, &model, RAW);
     if (morphs)
         put_u32(&file, 0);
     put_u32(&file, (uint32_t)n);
     for (i = 0; i < n; i++) {
-        struct bone bone;
-        struct morph morph;
         size_t at = file.len;
-        memset(&bone, 0, sizeof bone);
-        memset(&morph, 0, sizeof morph);
-        bone.name = morph.name = names[i];
         if (morphs)
             put_morph(&file, &morph, RAW);
         else
             put_bone(&file, &bone, RAW);
-        for (k = names[i].len + 1; k < 15; k++)
-            file.at[at + k] = (uint8_t)next_byte();
+        memcpy(file.at + at, fields[i].at, FIELD);
     }
     s = none();
     add(&s, &file, &a);
 }
 
 /* Of bones and of morphs, in their order, turned round, and from the middle on. */
-static void try_names_in_orders(const char *what, const struct name *names, size_t n, uint64_t different)
+static void try_fields_in_orders(const char *what, const struct field *fields, size_t n, size_t different)
 {
-    static struct name other[SOME];
+    static struct field other[SOME];
     size_t i;
     int morphs;
     for (morphs = 0; morphs < 2; morphs++) {
-        try_names(what, names, n, morphs, different);
+        try_fields(what, fields, n, morphs, different);
         for (i = 0; i < n; i++)
-            other[i] = names[n - 1 - i];
-        try_names(what, other, n, morphs, different);
+            other[i] = fields[n - 1 - i];
+        try_fields(what, other, n, morphs, different);
         for (i = 0; i < n; i++)
-            other[i] = names[(i + n / 2) % n];
-        try_names(what, other, n, morphs, different);
+            other[i] = fields[(i + n / 2) % n];
+        try_fields(what, other, n, morphs, different);
     }
+}
+
+/* Bytes after a name's zero differ from record to record. */
+static void try_names_in_orders(const char *what, const struct name *names, size_t n, size_t different)
+{
+    static struct field fields[SOME];
+    size_t i, k;
+    for (i = 0; i < n; i++) {
+        memset(&fields[i], 0, sizeof *fields);
+        memcpy(fields[i].at, names[i].at, names[i].len);
+        for (k = names[i].len + 1; k < FIELD; k++)
+            fields[i].at[k] = (uint8_t)next_byte();
+    }
+    try_fields_in_orders(what, fields, n, different);
+}
+
+/* One of the lists of names.h. */
+static void try_list(const char *what, const struct field *fields, size_t n, size_t tracks)
+{
+    struct name names[MOST_FIELDS];
+    size_t i;
+    for (i = 0; i < n; i++)
+        names[i] = name_in(&fields[i]);
+    trial("%s", what);
+    expect_number("the test's own tracks", distinct(names, n), tracks);
+    try_fields_in_orders(what, fields, n, tracks);
 }
 
 static void names(void)
@@ -644,10 +681,20 @@ static void names(void)
     static const char *const few[] = {
         "", "a", "", "b", "a", "ab", "aa", "b", "\xFF", "\x7F", "\x80", "\x0A", "a\x0A", "\x0A", "a\x0A" "b", "\x0A\x0A"
     };
+    static const char *const remarks[] = {"A", "A\nx", "A\ny", "A\n", "A\n\nx"}, *const starts[] = {"\nx", "\n", "", "\n\n"};
     size_t i, n = sizeof few / sizeof *few;
     for (i = 0; i < n; i++)
         all[i] = named(few[i]);
-    try_names_in_orders("empty, repeated and with line feeds", all, n, 12);
+    try_names_in_orders("empty, repeated and with line feeds", all, n, 8);
+    for (i = 0; i < 5; i++)
+        all[i] = named(remarks[i]);
+    try_names_in_orders("one name with other remarks", all, 5, 1);
+    try_names_in_orders("one with a remark and one without", all, 2, 1);
+    for (i = 0; i < 4; i++)
+        all[i] = named(starts[i]);
+    try_names_in_orders("the empty name with remarks", all, 4, 1);
+    try_names_in_orders("remarks alone", all, 2, 1);
+    all[0] = named("");
     try_names_in_orders("one empty name", all, 1, 1);
     for (i = 0; i < 40; i++)
         all[i] = named("");
@@ -676,35 +723,52 @@ static void names(void)
     try_names_in_orders("many", all, SOME, distinct(all, SOME));
 }
 
-/* More different names than are counted in one pass over the records; none twice, and then each twice. */
-static void many_names(void)
+/*
+ * Names that are numbers, so many of them different, again and again. With remarks, each record has another one: then its raw
+ * name is no other record's.
+ */
+static void try_many_names(int section, uint32_t records, uint32_t different, int remarks)
 {
-    enum { RECORDS = 22000, HEAD = 58 };
-    static uint8_t long_file[HEAD + VMD_MORPH_SIZE * RECORDS];
+    enum { MOST_RECORDS = 66000 };
+    static uint8_t long_file[58 + VMD_BONE_SIZE * MOST_RECORDS];
+    size_t head, size = record_sizes[section];
     struct name model = named("many");
     struct addition a;
     struct season s;
-    uint32_t i, each;
-    for (each = 1; each <= 2; each++) {
-        trial("%d morphs, names %lu times each", RECORDS, (unsigned long)each);
-        file.len = 0;
-        put_header(&file, &model, RAW);
+    uint32_t i;
+    trial("%lu records of section %d, %lu names%s", (unsigned long)records, section, (unsigned long)different,
+          remarks ? " with remarks" : "");
+    file.len = 0;
+    put_header(&file, &model, RAW);
+    if (section == VMD_MORPHS)
         put_u32(&file, 0);
-        put_u32(&file, RECORDS);
-        memset(long_file, 0, sizeof long_file);
-        memcpy(long_file, file.at, HEAD);
-        for (i = 0; i < RECORDS; i++) {
-            uint8_t *name = long_file + HEAD + VMD_MORPH_SIZE * i;
-            uint32_t number = i % (RECORDS / each) * 3571 % RECORDS; /* they have no divisor in common */
-            sprintf((char *)name, "%lu", (unsigned long)number);
-        }
-        memset(&a, 0, sizeof a);
-        a.to[VMD_MORPHS] = a.to[VMD_SEASON_RECORDS] = RECORDS;
-        a.to[VMD_SEASON_MORPH_NAMES] = RECORDS / each;
-        a.to[VMD_SEASON_ACCEPTED] = 1;
-        s = none();
-        add_bytes(&s, long_file, sizeof long_file, &a);
+    put_u32(&file, records);
+    head = file.len;
+    memset(long_file, 0, sizeof long_file);
+    memcpy(long_file, file.at, head);
+    for (i = 0; i < records; i++) {
+        unsigned long number = i % different * 3571 % different; /* a prime: all numbers come */
+        sprintf((char *)long_file + head + size * i, remarks ? "%lu\n%lu" : "%lu", number, (unsigned long)i);
     }
+    memset(&a, 0, sizeof a);
+    a.to[VMD_SEASON_TOTAL + section] = a.to[VMD_SEASON_RECORDS] = records;
+    a.to[VMD_SEASON_BONE_NAMES + section] = different;
+    a.to[VMD_SEASON_ACCEPTED] = 1;
+    s = none();
+    add_bytes(&s, long_file, head + size * records, &a);
+}
+
+/* More different names than are counted in one pass over the records; none twice, each twice, and with remarks. */
+static void many_names(void)
+{
+    static const uint32_t numbers[] = {1, 2, 300, 16383, 16384, 16385, 22000, 32767, 32768, 32769};
+    size_t k;
+    int section;
+    try_many_names(VMD_MORPHS, 22000, 22000, 0);
+    try_many_names(VMD_MORPHS, 22000, 11000, 0);
+    for (k = 0; k < sizeof numbers / sizeof *numbers; k++)
+        for (section = VMD_BONES; section <= VMD_MORPHS; section++)
+            try_many_names(section, 66000, numbers[k], 1);
 }
 
 /* ---- figures at their largest values */
@@ -925,6 +989,7 @@ int main(void)
     }
     damaged_takes();
     names();
+    each_list(try_list);
     many_names();
     limits();
     nothing_added();

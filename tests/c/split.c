@@ -326,12 +326,19 @@ static void names(void)
     enum { MANY = 2200 };
     static struct name all[MANY];
     static const char *const few[] = {"", "a", "", "b", "a", "ab", "aa", "b", "", "\xFF", "\x7F", "\x80", "\x0A", "a\x0A"};
+    static const char *const remarks[] = {"A", "A\nx", "A\ny", "A\nx", "A", "A\ny"};
     size_t i, len, n = sizeof few / sizeof *few;
     for (i = 0; i < n; i++)
         all[i] = named(few[i]);
     try_names_of_both("empty, repeated and first ones first", all, n);
     expect_number("names", expected.sizes[2], 10);
     expect_number("their bytes", expected.sizes[3], 0 + 1 + 1 + 2 + 2 + 1 + 1 + 1 + 1 + 2);
+    for (i = 0; i < 6; i++)
+        all[i] = named(remarks[i]);
+    try_names_of_both("one track for tidying, and three names", all, 6);
+    expect_number("names", expected.sizes[2], 3);
+    expect_number("their bytes", expected.sizes[3], 1 + 3 + 3);
+    expect_bytes("their bytes", expected.part[MORPH_NAME_BYTES].at, "AA\nxA\ny", 7);
     for (i = 0; i < 40; i++)
         all[i] = named("");
     try_names_of_both("empty ones alone", all, 40);

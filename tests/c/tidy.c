@@ -1,12 +1,13 @@
 /*
  * Tidying, through the C interface, in both manners: every byte of every output, every place of the scratch and every slot,
- * in refusals too, against an order of records that the test finds from request g)'s words.
+ * in refusals too, against an order of records that the test finds from the words of requests g) and k).
  *
  * Not tried: 13 where no 64-bit length could hold the file.
  */
 #include "check.h"
 #include "damaged.h"
 #include "expect.h"
+#include "names.h"
 #include "open.h"
 #include "random.h"
 #include "tidy.h"
@@ -42,13 +43,13 @@ static size_t tidy_order_of_many(const struct key *keys, size_t n, size_t *order
 
 /* ---- takes */
 
-/* Any bytes after a name's zero, which are no part of it. */
+/* Any bytes after a name's zero, line feeds among them, which are no part of it. */
 static void stir(uint8_t *field, size_t width)
 {
     uint8_t *zero = memchr(field, 0, width), *at;
     if (zero != NULL)
         for (at = zero + 1; at < field + width; at++)
-            *at = (uint8_t)random_u64();
+            *at = random_below(4) ? (uint8_t)random_u64() : LINE_FEED;
 }
 
 /* The same in every name of a file: those of one track then differ there. */
@@ -123,6 +124,33 @@ static void tracks_told(void)
         expect_number("weight", u32_at(out + 58 + 23 * i + 19), written[i]);
 }
 
+/* A remark does not tell tracks apart, and is written with the record that has it. */
+static void remarks_told(void)
+{
+    static const struct told bones[6] = {{"A\nx", 5}, {"B", 1}, {"A\ny", 5}, {"A", 2}, {"A\nx", 9}, {"B\nx", 1}};
+    static const struct told written[4] = {{"A", 2}, {"A\ny", 5}, {"A\nx", 9}, {"B\nx", 1}};
+    struct take t = distinct_take(0, 6, 0, 0, 0, 0, 0);
+    uint32_t kept[SECTIONS], dropped[SECTIONS];
+    uint64_t scratch[6], len = 0;
+    uint8_t out[74 + 4 * 111], name[FIELD];
+    size_t i;
+    for (i = 0; i < 6; i++) {
+        t.bones[i].name = named(bones[i].name);
+        t.bones[i].frame = bones[i].frame;
+    }
+    try_take("bones with remarks told in numbers", &t, RAW);
+    expect_number("tidy", vmd_tidy_animation(file.at, file.len, scratch, 6, out, sizeof out, &len, kept, dropped), VMD_OK);
+    expect_number("written", len, sizeof out);
+    expect_number("kept", kept[VMD_BONES], 4);
+    expect_number("dropped", dropped[VMD_BONES], 2);
+    for (i = 0; i < 4; i++) {
+        memset(name, 0, sizeof name);
+        memcpy(name, written[i].name, strlen(written[i].name));
+        expect_bytes("name", out + 54 + 111 * i, name, sizeof name);
+        expect_number("frame", u32_at(out + 54 + 111 * i + 15), written[i].frame);
+    }
+}
+
 /* A record that is first in the file and last by its frame is dropped; IK states are those of the record that is kept. */
 static void properties_told(void)
 {
@@ -153,6 +181,25 @@ static void properties_told(void)
     expect_bytes("the name", out + 134, t.properties[2].states[0].name.at, 20);
 }
 
+/* A row of records of a section, and the numbers of those that are kept, as they are to be written. */
+static void try_order(const char *what, size_t row, int section, const struct told *records, size_t n,
+                      const size_t *told_order, size_t kept)
+{
+    struct take t = one_section_take(section, n);
+    size_t i, order[MOST_PROPERTIES];
+    char name[64];
+    snprintf(name, sizeof name, "%s of row %zu in section %d", what, row, section);
+    for (i = 0; i < n; i++) {
+        *frame_of(&t, section, i) = records[i].frame;
+        t.bones[i].name = t.morphs[i].name = named(records[i].name);
+    }
+    trial("%s", name);
+    expect_number("the test's own number", order_of(&t, section, order), kept);
+    for (i = 0; i < kept; i++)
+        expect_number("the test's own order", order[i], told_order[i]);
+    try_take(name, &t, RAW);
+}
+
 /* Frames 9, 3, 9, the ends of the range, and one frame throughout, in each section. */
 static void frames_told(void)
 {
@@ -171,35 +218,63 @@ static void frames_told(void)
         {6, {6, 5, 4, 3, 2, 1}, 6, {5, 4, 3, 2, 1, 0}},
         {4, {0x00010000, 0x01000000, 0x00000100, 0x00000001}, 4, {3, 2, 0, 1}},
     };
-    size_t k, i, order[MOST_PROPERTIES];
+    struct told records[6];
+    size_t k, i;
     int s;
     for (k = 0; k < sizeof rows / sizeof *rows; k++)
         for (s = 0; s < SECTIONS; s++) {
-            struct take t = one_section_take(s, rows[k].n);
-            char name[64];
-            snprintf(name, sizeof name, "frames of row %zu in section %d", k, s);
             for (i = 0; i < rows[k].n; i++) {
-                *frame_of(&t, s, i) = rows[k].frames[i];
-                t.bones[i].name = t.morphs[i].name = named("one");
+                records[i].name = "one";
+                records[i].frame = rows[k].frames[i];
             }
-            trial("%s", name);
-            expect_number("the test's own number", order_of(&t, s, order), rows[k].kept);
-            for (i = 0; i < rows[k].kept; i++)
-                expect_number("the test's own order", order[i], rows[k].order[i]);
-            try_take(name, &t, RAW);
+            try_order("frames", k, s, records, rows[k].n, rows[k].order, rows[k].kept);
         }
+}
+
+/* Names with other remarks, each at one frame and at several; and names that only look like them. */
+static void names_told(void)
+{
+    static const struct {
+        size_t n;
+        struct told records[6];
+        size_t kept, order[6];
+    } rows[] = {
+        {3, {{"A", 5}, {"A\nx", 5}, {"A\ny", 5}}, 1, {2}},
+        {3, {{"A\ny", 5}, {"A\nx", 5}, {"A", 5}}, 1, {2}},
+        {3, {{"A", 9}, {"A\nx", 3}, {"A\ny", 6}}, 3, {1, 2, 0}},
+        {6, {{"A", 9}, {"A\nx", 3}, {"A\ny", 6}, {"A\nx", 9}, {"A\ny", 3}, {"A", 6}}, 3, {4, 5, 3}},
+        {4, {{"A\nx", 5}, {"B", 1}, {"A\ny", 5}, {"A", 2}}, 3, {3, 2, 1}},
+        {4, {{"B\n", 7}, {"A", 7}, {"B", 7}, {"A\n", 7}}, 2, {2, 3}},
+        {4, {{"\nx", 4}, {"", 4}, {"A", 4}, {"\n", 4}}, 2, {3, 2}},
+        {4, {{"", 8}, {"\n\n", 7}, {"\n\nx", 8}, {"\nA", 6}}, 3, {3, 1, 2}},
+        {3, {{"A\nx\ny", 5}, {"A\nx", 5}, {"A\n\nx", 5}}, 1, {2}},
+        {4, {{"A", 5}, {"A\r\n", 5}, {"A\r", 5}, {"A\n\r", 5}}, 2, {3, 2}},
+        {4, {{"A", 5}, {"A\v", 5}, {"A\x8A", 5}, {"a\n", 5}}, 4, {0, 1, 2, 3}},
+        {3, {{"AB", 5}, {"A\nB", 5}, {"AB\n", 5}}, 2, {2, 1}},
+        {4, {{"fourteen bytes", 5}, {"fourteen bytes\n", 5}, {"fourteen bytes!", 5}, {"fourteen byte\n!", 5}}, 3, {1, 2, 3}},
+    };
+    size_t k;
+    int s;
+    for (k = 0; k < sizeof rows / sizeof *rows; k++)
+        for (s = VMD_BONES; s <= VMD_MORPHS; s++)
+            try_order("remarks", k, s, rows[k].records, rows[k].n, rows[k].order, rows[k].kept);
 }
 
 /* ---- any takes: few names and few frames, in any order */
 
-/* The beginnings of others, names that differ after a line feed, and the empty name, each a track of its own. */
+/* The beginnings of others, and the empty name, each a track of its own; half of them with a remark, as far as it fits. */
 static struct name any_name(size_t names)
 {
     static const char *const few[] = {
-        "b", "a", "", "a\x0A", "a\x0A" "1", "a\x0A" "2", "\x0A", "ab", "fifteen letters", "fifteen letterS", "\xFF", "\x01",
-        "B"
+        "b", "a", "", "ab", "\v", "seven b", "eight by", "eight byt", "fourteen bytes", "fifteen letters", "fifteen letterS",
+        "\xFF", "a\r"
     };
-    return named(few[random_below(smaller(names, sizeof few / sizeof *few))]);
+    static const char *const remarks[] = {"\n", "\n1", "\n2", "\n\n", "\nb", "\n and a long one"};
+    struct name n = named(few[random_below(smaller(names, sizeof few / sizeof *few))]);
+    const char *remark = random_below(2) ? remarks[random_below(sizeof remarks / sizeof *remarks)] : "";
+    while (n.len < FIELD && *remark != 0)
+        n.at[n.len++] = (uint8_t)*remark++;
+    return n;
 }
 
 static uint32_t any_frame(size_t frames)
@@ -374,41 +449,77 @@ static void tidied_twice(enum manner m, const struct bytes *once)
     expect_opens_alike(once->at, once->len);
 }
 
-/*
- * A join tidied, and the join of the two tidied ones tidied, both as the test's own order tells: in the one manner and the
- * other in turn, over files that it accepts.
- */
-static void laws(void)
+/* A join tidied, and the join of the two tidied ones tidied, both as the test's own order tells. */
+static void try_join(enum manner m, const struct sample files[2])
 {
-    static struct sample files[2];
     static struct bytes both, tidied[2], of_join, of_tidied;
     uint32_t kept[SECTIONS], dropped[SECTIONS];
-    size_t i, k, s;
+    struct take whole;
+    size_t k, s;
+    for (k = 0; k < 2; k++) {
+        tidy(m, &files[k].file, &tidied[k], kept, dropped);
+        for (s = 0; s < SECTIONS; s++)
+            expect_number("kept and dropped", (uint64_t)kept[s] + dropped[s], files[k].means.counts[s]);
+        tidied_twice(m, &tidied[k]);
+    }
+    join(m, &files[0].file, &files[1].file, &both);
+    tidy(m, &both, &of_join, kept, dropped);
+    join(m, &tidied[0], &tidied[1], &both);
+    tidy(m, &both, &of_tidied, kept, dropped);
+    whole = joined(&files[0].means, &files[1].means);
+    tidied_take(&whole, &expected_bytes);
+    expect_same_file("the join tidied", &of_join, &expected_bytes);
+    expect_same_file("the join of the two tidied, tidied", &of_tidied, &expected_bytes);
+    tidied_twice(m, &of_join);
+}
+
+static struct sample halves[2];
+
+/* In the one manner and the other in turn, over files that it accepts. */
+static void laws(void)
+{
+    size_t i, k;
     for (i = 0; i < 3000; i++) {
         enum manner m = i % 2 ? STRICT : LENIENT;
-        struct take whole;
         trial("random join %zu", i);
         for (k = 0; k < 2; k++) {
             struct take t = any_take(MOST / 2);
-            make_whole(&files[k], t.model.len <= 10 && random_below(2) ? OLDER : NEWER, &t, RAW);
-            stir_names(&files[k].file);
+            make_whole(&halves[k], t.model.len <= 10 && random_below(2) ? OLDER : NEWER, &t, RAW);
+            stir_names(&halves[k].file);
             if (m == LENIENT && random_below(2))
-                damage(&files[k]);
-            tidy(m, &files[k].file, &tidied[k], kept, dropped);
-            for (s = 0; s < SECTIONS; s++)
-                expect_number("kept and dropped", (uint64_t)kept[s] + dropped[s], files[k].means.counts[s]);
-            tidied_twice(m, &tidied[k]);
+                damage(&halves[k]);
         }
-        join(m, &files[0].file, &files[1].file, &both);
-        tidy(m, &both, &of_join, kept, dropped);
-        join(m, &tidied[0], &tidied[1], &both);
-        tidy(m, &both, &of_tidied, kept, dropped);
-        whole = joined(&files[0].means, &files[1].means);
-        tidied_take(&whole, &expected_bytes);
-        expect_same_file("the join tidied", &of_join, &expected_bytes);
-        expect_same_file("the join of the two tidied, tidied", &of_tidied, &expected_bytes);
-        tidied_twice(m, &of_join);
+        try_join(m, halves);
     }
+}
+
+/* Two halves that spell the remarks of the same tracks otherwise: the tracks come as in the first, the second's are last. */
+static void halves_with_remarks(void)
+{
+    static const struct told records[2][4] = {
+        {{"A\nx", 5}, {"B", 3}, {"A\nx", 2}, {"B\nx", 3}},
+        {{"B\ny", 3}, {"C\n", 1}, {"A", 5}, {"A\ny", 4}},
+    };
+    static const size_t told[5] = {2, 7, 6, 4, 5}; /* A: 2, 4, 5; B: 3; C: 1 */
+    struct take whole;
+    size_t k, i, order[MOST_PROPERTIES];
+    enum manner m;
+    trial("a join of halves with other remarks");
+    for (k = 0; k < 2; k++) {
+        struct take t = distinct_take(3, 4, 4, 0, 0, 0, 0);
+        for (i = 0; i < 4; i++) {
+            t.bones[i].name = t.morphs[i].name = named(records[k][i].name);
+            t.bones[i].frame = t.morphs[i].frame = records[k][i].frame;
+        }
+        make_whole(&halves[k], NEWER, &t, RAW);
+    }
+    whole = joined(&halves[0].means, &halves[1].means);
+    for (i = VMD_BONES; i <= VMD_MORPHS; i++) {
+        expect_number("the test's own number", order_of(&whole, (int)i, order), 5);
+        expect_bytes("the test's own order", order, told, sizeof told);
+    }
+    for (m = STRICT; m < MANNERS; m++)
+        try_join(m, halves);
 }
 
 /* ---- many records of one section: kept records are counted in passes, and names through a cache */
@@ -564,19 +675,46 @@ static void append_u32(struct large *to, uint32_t value)
     append(to, b.at, b.len);
 }
 
-/* Names of other lengths whose order is not that of their numbers. */
-static struct name name_of_track(size_t track)
+/* The name that record i has, which is of this track. */
+typedef struct field (*naming)(size_t track, size_t i);
+
+static struct field in_field(const struct name *name)
 {
-    return numbered((uint32_t)track, track % 3 ? 7 : 15, track % 3 == 0);
+    struct field f;
+    memset(&f, 0, sizeof f);
+    memcpy(f.at, name->at, name->len);
+    stir(f.at, FIELD);
+    return f;
+}
+
+/* Names of other lengths whose order is not that of their numbers. */
+static struct field plain(size_t track, size_t i)
+{
+    struct name n = numbered((uint32_t)track, track % 3 ? 7 : 15, track % 3 == 0);
+    (void)i;
+    return in_field(&n);
+}
+
+/* Names of 6 to 15 bytes, a quarter with no remark, a quarter with an empty one, and half with the record's number as one. */
+static struct field remarked(size_t track, size_t i)
+{
+    size_t len = 6 + track % 10;
+    struct name n = numbered((uint32_t)track, len, len % 2 == 0), remark = numbered((uint32_t)i, FIELD - len, 0);
+    if (i % 4 > 0 && len < FIELD) {
+        memcpy(n.at + len, remark.at, remark.len);
+        n.at[len] = LINE_FEED;
+        n.len = i % 4 == 1 ? len + 1 : FIELD;
+    }
+    return in_field(&n);
 }
 
 /* A record of a take becomes number i: its key, and something in it that only this number has. */
-static void make_record(struct take *t, int section, size_t k, size_t i, const struct key *key)
+static void make_record(struct take *t, int section, size_t k, size_t i, uint32_t frame, const struct field *field)
 {
-    *frame_of(t, section, k) = key->frame;
+    *frame_of(t, section, k) = frame;
     switch (section) {
-    case 0: t->bones[k].name = name_of_track(key->track), t->bones[k].floats[6] = (uint32_t)i; break;
-    case 1: t->morphs[k].name = name_of_track(key->track), t->morphs[k].weight = (uint32_t)i; break;
+    case 0: t->bones[k].name = name_in(field), t->bones[k].floats[6] = (uint32_t)i; break;
+    case 1: t->morphs[k].name = name_in(field), t->morphs[k].weight = (uint32_t)i; break;
     case 2: t->cameras[k].field_of_view = (uint32_t)i; break;
     case 3: t->lights[k].floats[5] = (uint32_t)i; break;
     case 4: t->self_shadows[k].distance = (uint32_t)i; break;
@@ -589,18 +727,19 @@ static size_t order[MOST_RECORDS], ends[MOST_RECORDS + 1];
 static struct large large_file, large_tidied, canonical;
 
 /* The section's records go to the file; as they are to be written they are put apart, each up to its end. */
-static void make_records(struct take *t, int section, size_t n)
+static void make_records(struct take *t, int section, size_t n, naming name)
 {
     static struct bytes one;
     size_t i;
     canonical.len = 0;
     for (i = 0; i < n; i++) {
         size_t k = i % t->counts[section];
-        make_record(t, section, k, i, &keys[i]);
+        struct field field = name(keys[i].track, i);
+        make_record(t, section, k, i, keys[i].frame, &field);
         one.len = 0;
         put_record(&one, t, section, k, RAW);
         if (section < 2)
-            stir(one.at, 15);
+            memcpy(one.at, field.at, FIELD);
         append(&large_file, one.at, one.len);
         one.len = 0;
         put_record(&one, t, section, k, CANONICAL);
@@ -634,13 +773,13 @@ static void same_orders(size_t n, size_t kept)
 }
 
 /* A section of so many records whose keys have this shape. */
-static void make_section(struct tidied *expected, struct take *t, int section, size_t n, shape key)
+static void make_section(struct tidied *expected, struct take *t, int section, size_t n, shape key, naming name)
 {
     size_t i, kept;
     for (i = 0; i < n; i++)
         keys[i] = key(i, n);
     append_u32(&large_file, (uint32_t)n);
-    make_records(t, section, n);
+    make_records(t, section, n, name);
     number_tracks(section, n);
     kept = tidy_order_of_many(keys, n, order);
     same_orders(n, kept);
@@ -663,7 +802,7 @@ static void begin_file(struct large *to, enum edition edition, const struct name
 }
 
 /* A take with so many records in each section, of the one edition and the other in turn. */
-static struct tidied make_large(const size_t n[SECTIONS], shape key)
+static struct tidied make_large(const size_t n[SECTIONS], shape key, naming name)
 {
     static unsigned turn;
     static struct take t;
@@ -675,7 +814,7 @@ static struct tidied make_large(const size_t n[SECTIONS], shape key)
     begin_file(&large_tidied, NEWER, &t.model, CANONICAL);
     expected.exported = large_tidied.len + 4 * SECTIONS;
     for (s = 0; s < SECTIONS; s++)
-        make_section(&expected, &t, s, n[s], key);
+        make_section(&expected, &t, s, n[s], key, name);
     expected.file.at = large_tidied.at;
     expected.file.len = large_tidied.len;
     return expected;
@@ -688,12 +827,18 @@ static enum manner in_turn(void)
     return turn++ % 2 ? STRICT : LENIENT;
 }
 
-/* One byte short is the hard one: the kept records have to be counted, and nothing may have changed. */
-static void try_large(const struct tidied *expected)
+static struct input input_of_large(void)
 {
     struct input in;
     in.at = large_file.at;
     in.len = large_file.len;
+    return in;
+}
+
+/* One byte short is the hard one: the kept records have to be counted, and nothing may have changed. */
+static void try_large(const struct tidied *expected)
+{
+    struct input in = input_of_large();
     expect_enough(&in, expected);
     tidy_size_with(in_turn(), &in, expected->places, VMD_OK, expected);
     tidy_with(in_turn(), &in, expected->places, expected->file.len - 1, VMD_OUTPUT_TOO_SHORT, NULL);
@@ -703,13 +848,13 @@ static void try_large(const struct tidied *expected)
     expect_opens_alike(expected->file.at, expected->file.len);
 }
 
-static void try_section(const char *name, int section, size_t records, shape key)
+static void try_section(const char *name, int section, size_t records, shape key, naming names)
 {
     size_t n[SECTIONS] = {0};
     struct tidied expected;
     n[section] = records;
-    trial("%zu records of section %d, %s", records, section, name);
-    expected = make_large(n, key);
+    trial("%zu records of section %d, %s%s", records, section, name, names == remarked ? ", with remarks" : "");
+    expected = make_large(n, key, names);
     try_large(&expected);
 }
 
@@ -723,7 +868,7 @@ static void many_frames(void)
     size_t k, l;
     for (k = 0; k < FRAME_SHAPES; k++)
         for (l = 0; l < AROUND; l++)
-            try_section(frame_shapes[k].name, (int)((k + l) % SECTIONS), around[l], frame_shapes[k].key);
+            try_section(frame_shapes[k].name, (int)((k + l) % SECTIONS), around[l], frame_shapes[k].key, plain);
 }
 
 /* More names than a cache of them has places. */
@@ -733,7 +878,7 @@ static void many_names(void)
     size_t k, l;
     for (k = 0; k < NAME_SHAPES; k++)
         for (l = 0; l < sizeof numbers / sizeof *numbers; l++)
-            try_section(name_shapes[k].name, (k + l) % 3 ? VMD_MORPHS : VMD_BONES, numbers[l], name_shapes[k].key);
+            try_section(name_shapes[k].name, (k + l) % 3 ? VMD_MORPHS : VMD_BONES, numbers[l], name_shapes[k].key, plain);
 }
 
 /* So many different frames, each of which some records have, so that the kept ones are around the same numbers. */
@@ -750,20 +895,34 @@ static void many_kept(void)
     size_t l;
     for (l = 0; l < AROUND; l++) {
         different = around[l];
-        try_section("some frames again", VMD_SELF_SHADOWS, different + 3000, of_different);
-        try_section("some names again", VMD_MORPHS, different + 3000, of_different);
+        try_section("some frames again", VMD_SELF_SHADOWS, different + 3000, of_different, plain);
+        try_section("some names again", VMD_MORPHS, different + 3000, of_different, plain);
+    }
+}
+
+/* One track whose records have nearly all another name; as many tracks as above, and records again under another name. */
+static void many_remarks(void)
+{
+    size_t k, l;
+    for (k = 0; k < FRAME_SHAPES; k++)
+        try_section(frame_shapes[k].name, k % 2 ? VMD_MORPHS : VMD_BONES, around[k % AROUND], frame_shapes[k].key, remarked);
+    for (k = 0; k < NAME_SHAPES; k++)
+        try_section(name_shapes[k].name, k % 2 ? VMD_MORPHS : VMD_BONES, k % 3 ? 49153 : 20001, name_shapes[k].key, remarked);
+    for (l = 0; l < AROUND; l++) {
+        different = around[l];
+        try_section("some names again", l % 2 ? VMD_BONES : VMD_MORPHS, different + 3000, of_different, remarked);
     }
 }
 
 /* The sections have other numbers of records, the first one the most. */
-static void try_every_section(const char *name, size_t records, shape key)
+static void try_every_section(const char *name, size_t records, shape key, naming names)
 {
     size_t n[SECTIONS], s;
     struct tidied expected;
     for (s = 0; s < SECTIONS; s++)
         n[s] = records - smaller(s, records - 1);
-    trial("%zu records of every section, %s", records, name);
-    expected = make_large(n, key);
+    trial("%zu records of every section, %s%s", records, name, names == remarked ? ", with remarks" : "");
+    expected = make_large(n, key, names);
     try_large(&expected);
 }
 
@@ -773,13 +932,84 @@ static void all_sections(void)
     static const size_t numbers[] = {1, 2, 3, 5, 9, 17, 33, MOST_PROPERTIES, 700, 3000};
     size_t k, l;
     for (l = 0; l < sizeof numbers / sizeof *numbers; l++) {
-        for (k = 0; k < FRAME_SHAPES; k++)
-            try_every_section(frame_shapes[k].name, numbers[l], frame_shapes[k].key);
-        for (k = 0; k < NAME_SHAPES; k++)
-            try_every_section(name_shapes[k].name, numbers[l], name_shapes[k].key);
+        for (k = 0; k < FRAME_SHAPES; k++) {
+            try_every_section(frame_shapes[k].name, numbers[l], frame_shapes[k].key, plain);
+            try_every_section(frame_shapes[k].name, numbers[l], frame_shapes[k].key, remarked);
+        }
+        for (k = 0; k < NAME_SHAPES; k++) {
+            try_every_section(name_shapes[k].name, numbers[l], name_shapes[k].key, plain);
+            try_every_section(name_shapes[k].name, numbers[l], name_shapes[k].key, remarked);
+        }
     }
-    try_every_section("any order", 16390, any_order);
-    try_every_section("few names", 20000, few_names);
+    try_every_section("any order", 16390, any_order, plain);
+    try_every_section("few names", 20000, few_names, plain);
+    try_every_section("few names", 20000, few_names, remarked);
+}
+
+/* ---- lists of names, with every byte and line feeds at every place */
+
+static const struct field *listed;
+static size_t tracks_listed[MOST_FIELDS];
+
+static struct field of_list(size_t track, size_t i)
+{
+    (void)track;
+    return listed[i];
+}
+
+static struct key list_at_one_frame(size_t i, size_t n)
+{
+    (void)n;
+    return keyed(tracks_listed[i], 5);
+}
+
+static struct key list_at_three_frames(size_t i, size_t n)
+{
+    (void)n;
+    return keyed(tracks_listed[i], 9 - i % 3);
+}
+
+/* As a section's names, and then what was written once more: it stays as it is. At one frame each track keeps one. */
+static void try_listed(const char *what, int section, size_t records, size_t tracks, shape key)
+{
+    size_t n[SECTIONS] = {0};
+    struct tidied expected, again;
+    struct input in;
+    trial("%s, section %d, %s", what, section, key == list_at_one_frame ? "one frame" : "three frames");
+    n[section] = records;
+    expected = make_large(n, key, of_list);
+    if (key == list_at_one_frame)
+        expect_number("the test's own tracks", expected.kept[section], tracks);
+    in = input_of_large();
+    try_tidy(&in, alike(VMD_OK), &expected);
+    again = expected;
+    again.exported = expected.file.len;
+    again.places = expected.kept[section];
+    again.dropped[section] = 0;
+    try_tidy(&expected.file, alike(VMD_OK), &again);
+}
+
+/* In their order and turned round, so that other names are the first of their tracks. */
+static void try_list(const char *what, const struct field *fields, size_t n, size_t tracks)
+{
+    static struct field turned[MOST_FIELDS];
+    static struct name names[MOST_FIELDS];
+    size_t i, turn;
+    int s;
+    for (i = 0; i < n; i++)
+        turned[i] = fields[n - 1 - i];
+    for (turn = 0; turn < 2; turn++) {
+        listed = turn ? turned : fields;
+        for (i = 0; i < n; i++) {
+            names[i] = name_in(&listed[i]);
+            for (tracks_listed[i] = 0; !same_track(&names[tracks_listed[i]], &names[i]); tracks_listed[i]++)
+                ;
+        }
+        for (s = VMD_BONES; s <= VMD_MORPHS; s++) {
+            try_listed(what, s, n, tracks, list_at_one_frame);
+            try_listed(what, s, n, tracks, list_at_three_frames);
+        }
+    }
 }
 
 /* ---- the stack that a call takes: 512 KiB, as the header says */
@@ -840,7 +1070,7 @@ static void stack_taken(void)
         struct tidied expected;
         trial("the stack taken for section %d", s);
         n[s] = 40961;
-        expected = make_large(n, names_again_equal);
+        expected = make_large(n, names_again_equal, remarked);
         try_stack(room + GUARD, 0, VMD_OK);
         try_stack(room + GUARD, expected.file.len - 1, VMD_OUTPUT_TOO_SHORT);
         try_stack(room + GUARD, expected.file.len, VMD_OK);
@@ -852,8 +1082,10 @@ int main(void)
 {
     enum edition edition;
     tracks_told();
+    remarks_told();
     properties_told();
     frames_told();
+    names_told();
     other_takes();
     any_takes();
     for (edition = NEWER; edition < EDITIONS; edition++) {
@@ -861,10 +1093,13 @@ int main(void)
         damaged(edition);
     }
     laws();
+    halves_with_remarks();
+    each_list(try_list);
     all_sections();
     many_frames();
     many_names();
     many_kept();
+    many_remarks();
     stack_taken();
     return finished("tidy");
 }

@@ -118,7 +118,6 @@ namespace model {
     X('g', TidySigned, "frames are compared as signed numbers")                                                              \
     X('g', TidyOneTrack, "bones are one track")                                                                              \
     X('g', TidyTracksByName, "tracks stand in order of their names")                                                         \
-    X('g', TidyLineFeed, "names belong to one track up to the line feed")                                                    \
     X('g', TidyScratchLeft, "the scratch keeps its contents")                                                                \
     X('g', TidyScratchAll, "the whole scratch is set to zero")                                                               \
     X('g', TidyScratchBones, "the scratch has one place per bone")                                                           \
@@ -295,7 +294,33 @@ namespace model {
     X('j', ExcerptSizeAllIks, "the size has the IK states of frames that go")                                                \
     X('j', ExcerptTwiceUnended, "an excerpt's excerpt ends beyond the first one's last frame")                               \
     X('j', ExcerptTwiceWraps, "the frames of an excerpt's excerpt are added up in 32 bits")                                  \
-    X('j', ExcerptTwiceBeyond, "an excerpt's excerpt that begins beyond the first one's last frame has that frame's records")
+    X('j', ExcerptTwiceBeyond, "an excerpt's excerpt that begins beyond the first one's last frame has that frame's records") \
+    X('k', TrackReturn, "0x0D cuts, and 0x0A does not")                                                                      \
+    X('k', TrackLineEnds, "0x0B and 0x0D cut too")                                                                           \
+    X('k', TrackSevenBits, "0x8A cuts too")                                                                                  \
+    X('k', TrackLastLineFeed, "a name is cut at its last line feed")                                                         \
+    X('k', TrackWithLineFeed, "the line feed belongs to the name of the track")                                              \
+    X('k', TrackPlace0, "a line feed in the first byte is passed over")                                                      \
+    X('k', TrackPlace7, "a line feed at place 7 is passed over")                                                             \
+    X('k', TrackPlace8, "a line feed at place 8 is passed over")                                                             \
+    X('k', TrackPlace14, "a line feed in the last byte is passed over")                                                      \
+    X('k', TrackAfterZero, "a line feed after the first zero cuts, and what is before it counts")                            \
+    X('k', TidyBonesRaw, "bone tracks are told apart by raw names")                                                          \
+    X('k', TidyMorphsRaw, "morph tracks are told apart by raw names")                                                        \
+    X('k', TidySizeRaw, "vmd_tidy_size measures tracks of raw names")                                                        \
+    X('k', TidyShortRaw, "13 is tested with tracks of raw names")                                                            \
+    X('k', TidyNumbersRaw, "kept and dropped are those of tracks of raw names")                                              \
+    X('k', TidyDropsRaw, "of a frame the last record of each raw name is kept")                                              \
+    X('k', TidyStandsRaw, "records are dropped by track, and stand by raw names")                                            \
+    X('k', TidyOrderBare, "tracks stand in order of their first names without a remark")                                     \
+    X('k', TidyOrderKept, "tracks stand where the raw name of their first kept record appears")                              \
+    X('k', TidyRemarkCut, "a tidied record loses its remark")                                                                \
+    X('k', TidyFirstName, "a tidied record has the name of its track's first")                                               \
+    X('k', TidyIksCut, "IK names lose their remark in tidying")                                                              \
+    X('k', TidyModelCut, "the model name loses its remark in tidying")                                                       \
+    X('k', SeasonBonesRaw, "the season counts raw bone names")                                                               \
+    X('k', SeasonMorphsRaw, "the season counts raw morph names")                                                             \
+    X('k', SplitSizesTracks, "vmd_split_sizes counts names up to the line feed")
 
 enum Alteration : int {
     AsWritten,

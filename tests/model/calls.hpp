@@ -6,6 +6,7 @@
 #include <cstdio>
 #include <cstdlib>
 #include <cstring>
+#include <set>
 #include <stdexcept>
 
 #include <sys/mman.h>
@@ -36,6 +37,7 @@ struct Progress {
     std::array<PairsMet, 5> pairs{};                                        // by Of
     std::map<std::string, u64> strict;                                      // see count_strict
     std::vector<std::array<u64, 2>> cuts;                                   // of cut_cases, by edition: see count_cut
+    std::map<std::string, u64> remarks;                                     // see count_remarks
 };
 static Progress now;
 
@@ -427,6 +429,101 @@ static void count_cut(const File &f, Span s, std::optional<Span> inner = {}) {
         if (cut_cases[i].holds(cut)) now.cuts[i][older ? 1 : 0]++;
 }
 static void begin_cuts() { now.cuts.assign(std::size(cut_cases), {}); }
+
+// ---- what names with remarks meet, counted as the model sees it
+
+// Two bones or two morphs, in file order.
+struct Two {
+    Name x, y;             // their names
+    Name x_field, y_field; // and whole fields
+    bool one_frame;
+    bool one_track() const { return agree('\n'); }
+    bool agree(char up_to) const { return x.substr(0, x.find(up_to)) == y.substr(0, y.find(up_to)); }
+    bool like(char other) const { return !one_track() && agree(other) && x.find(other) != Name::npos; }
+};
+static bool remark(const Name &n) { return n.find('\n') != Name::npos; }
+
+// What a run has to meet, each for bones and for morphs.
+struct TwoCase {
+    const char *words;
+    bool (*holds)(const Two &);
+};
+static const TwoCase two_cases[] = {
+    {"two remarks", [](const Two &t) { return t.one_track() && remark(t.x) && remark(t.y) && t.x != t.y; }},
+    {"a remark, then none", [](const Two &t) { return t.one_track() && remark(t.x) && !remark(t.y); }},
+    {"no remark, then one", [](const Two &t) { return t.one_track() && !remark(t.x) && remark(t.y); }},
+    {"two names at one frame", [](const Two &t) { return t.one_track() && t.x != t.y && t.one_frame; }},
+    {"no name, and one that begins with a line feed", [](const Two &t) { return t.one_track() && t.x.empty() != t.y.empty(); }},
+    {"apart before a second line feed",
+     [](const Two &t) { return t.one_track() && t.x.substr(0, t.x.rfind('\n')) != t.y.substr(0, t.y.rfind('\n')); }},
+    {"a line feed in one of two names", [](const Two &t) { return !t.one_track() && remark(t.x) != remark(t.y); }},
+    {"two tracks, one up to 0x0B", [](const Two &t) { return t.like('\v'); }},
+    {"two tracks, one up to 0x0D", [](const Two &t) { return t.like('\r'); }},
+    {"two tracks, one up to 0x8A", [](const Two &t) { return t.like('\x8A'); }},
+    {"a line feed after the zero",
+     [](const Two &t) { return t.x == t.y && !remark(t.x) && remark(t.x_field) && t.x_field != t.y_field; }},
+};
+constexpr u64 longest_counted = 100; // records of a section: all pairs of them are looked at
+
+static std::string cut_at(u64 place) { return "cut at place " + std::to_string(place); }
+
+// The cases of a take's bones, or of its morphs.
+template <class Record>
+std::set<std::string> remark_cases(const std::vector<Record> &all, const std::vector<Record> &kept, const Bytes &f, u64 place,
+                                   u64 size) {
+    std::set<std::string> met;
+    for (u64 j = 0; j < all.size(); j++) {
+        bool first = true;
+        for (u64 i = 0; i < j; i++) {
+            const Two two{all[i].name, all[j].name, raw_field(f, place, size, i), raw_field(f, place, size, j),
+                          all[i].frame == all[j].frame};
+            for (const TwoCase &c : two_cases)
+                if (c.holds(two)) met.insert(c.words);
+            if (two.one_track() && two.x != two.y) met.insert(cut_at(up_to_line_feed(two.x).size()));
+            if (two.one_track()) first = false;
+        }
+        if (first && first_named(kept, all[j].name) == kept.size()) met.insert("the first name of a track goes");
+    }
+    return met;
+}
+static void count_remarks(const std::set<std::string> &met, const char *section) {
+    for (const std::string &what : met) now.remarks[what + ", " + section]++;
+}
+static void count_remarks(const File &f) {
+    const Reading &read = f.in(Manner::lenient);
+    const Take &t = read.take();
+    if (alteration != AsWritten || read.refusal() || std::max(t.bones.size(), t.morphs.size()) > longest_counted) return;
+    const Take &after = tidied(f, read);
+    const auto &places = read.opening.places;
+    count_remarks(remark_cases(t.bones, after.bones, f.bytes, places[bones], 111), section_words[bones]);
+    count_remarks(remark_cases(t.morphs, after.morphs, f.bytes, places[morphs], 23), section_words[morphs]);
+}
+
+// Of a join whose halves spell a track otherwise.
+template <class Record>
+void count_spellings(const std::vector<Record> &first, const std::vector<Record> &second, const char *section) {
+    std::set<std::string> met;
+    for (u64 i = 0; i < std::min<u64>(first.size(), longest_counted); i++)
+        for (u64 j = 0; j < std::min<u64>(second.size(), longest_counted); j++) {
+            const Record &x = first[i], &y = second[j];
+            if (x.name == y.name || up_to_line_feed(x.name) != up_to_line_feed(y.name)) continue;
+            met.insert(x.frame == y.frame ? "joined, at one frame" : "joined, at two frames");
+        }
+    count_remarks(met, section);
+}
+static void count_spellings(const Take &first, const Take &second) {
+    if (alteration != AsWritten) return;
+    count_spellings(first.bones, second.bones, section_words[bones]);
+    count_spellings(first.morphs, second.morphs, section_words[morphs]);
+}
+
+static void begin_remarks() {
+    std::set<std::string> all = {"the first name of a track goes", "joined, at one frame", "joined, at two frames"};
+    for (const TwoCase &c : two_cases) all.insert(c.words);
+    for (u64 place = 0; place < bone_name_width; place++) all.insert(cut_at(place));
+    for (int section : {bones, morphs})
+        for (const std::string &what : all) now.remarks[what + ", " + section_words[section]] = 0;
+}
 
 // A file that is lent; it stays where it is for as long as the same file is lent.
 struct LentFile {

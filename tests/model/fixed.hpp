@@ -1,7 +1,9 @@
 // Answers that stand in the papers themselves, without the model: the takes of document 01, the manners of request i), excerpts
-// of files written by hand, every short name, and sections too long to be made otherwise.
+// and tracks of files written by hand, every short name, and sections too long to be made otherwise.
 #ifndef FIXED_HPP
 #define FIXED_HPP
+
+#include <string_view>
 
 #include "calls.hpp"
 
@@ -291,6 +293,107 @@ inline void excerpts() {
     excerpts_turned_down();
 }
 
+// ---- k) names up to the line feed, in bytes
+
+// A bone or morph, zero but for its name, its frame and its last byte.
+struct Key {
+    std::string_view name;
+    u8 frame, last;
+};
+using Keys = std::vector<Key>;
+
+// The canonical file of these, with a remark in its model name, which is no track.
+inline Bytes keys_file(Section section, const Keys &keys) {
+    const u32 n = static_cast<u32>(keys.size());
+    Bytes f = section == bones ? start({n}) : start({0, n});
+    f[30] = 'm', f[31] = '\n', f[32] = 'x';
+    for (const Key &key : keys) {
+        Bytes record(record_size[section], 0);
+        std::copy(key.name.begin(), key.name.end(), record.begin());
+        record[15] = key.frame, record.back() = key.last;
+        extend(f, record);
+    }
+    f.resize(f.size() + (section == bones ? 20 : 16), 0); // the other counts
+    return f;
+}
+
+// Both calls of both manners, with just enough room and with more; tidied once more it stays as it is.
+inline void tidies(const char *what, const Bytes &wanted, const Bytes &f, Section section, u64 records, u64 stay) {
+    for (Manner m : manners) {
+        const bool strict = m == Manner::strict;
+        const auto size_call = strict ? vmd_tidy_size : vmd_tidy_size_lenient;
+        const auto call = strict ? vmd_tidy_animation : vmd_tidy_animation_lenient;
+        for (std::size_t room : {wanted.size(), f.size(), f.size() + 1}) {
+            Words kept(6), dropped(6);
+            Longs scratch(records);
+            Bytes out(room);
+            u64 size = 0, written = 0;
+            equal(what, 0, size_call(f.data(), f.size(), scratch.data(), records, &size, kept.data(), dropped.data()));
+            equal(what, 0, call(f.data(), f.size(), scratch.data(), records, out.data(), room, &written, kept.data(),
+                                dropped.data()));
+            equal(what, wanted.size(), size);
+            equal(what, wanted.size(), written);
+            equal(what, stay, kept[section]);
+            equal(what, records - stay, dropped[section]);
+            for (std::size_t i = 0; i < wanted.size(); i++) equal(what, wanted[i], out[i]);
+        }
+    }
+    if (f != wanted) tidies(what, wanted, wanted, section, stay, stay);
+}
+
+// The keys as bones and as morphs: what stays of them, how many tracks the season counts, and raw names the parts.
+inline void tracks(const char *what, const Keys &keys, const Keys &stay, u64 tracks_, u64 raw_names) {
+    for (Section section : {bones, morphs}) {
+        const Bytes f = keys_file(section, keys);
+        tidies(what, keys_file(section, stay), f, section, keys.size(), stay.size());
+        Words counts(12);
+        Longs figures(11), sizes(4);
+        vmd_season_add(f.data(), f.size(), counts.data(), figures.data());
+        equal(what, tracks_, figures[section == bones ? VMD_SEASON_BONE_NAMES : VMD_SEASON_MORPH_NAMES]);
+        equal(what, 0, vmd_split_sizes(f.data(), f.size(), sizes.data()));
+        equal(what, raw_names, sizes[section == bones ? 0 : 2]);
+    }
+}
+
+// "Two names now belong to one track when they agree up to the first byte 0x0A"; "A tidied record keeps its full name."
+inline void tracks_of_names() {
+    const Name feeds(15, '\n'), full(15, 'A');
+    tracks("`A`, `A\\nx` and `A\\ny`", {{"A", 3, 1}, {"A\nx", 1, 2}, {"B", 0, 3}, {"A\ny", 3, 4}, {"A", 2, 5}},
+           {{"A\nx", 1, 2}, {"A", 2, 5}, {"A\ny", 3, 4}, {"B", 0, 3}}, 2, 4);
+    tracks("the first name goes", {{"A\nx", 1, 1}, {"B\n", 1, 2}, {"A", 1, 3}, {"B", 1, 4}}, {{"A", 1, 3}, {"B", 1, 4}}, 2, 4);
+    tracks("the empty name", {{"\n", 1, 1}, {"", 2, 2}, {"\nx", 1, 3}}, {{"\nx", 1, 3}, {"", 2, 2}}, 1, 3);
+    tracks("nothing but line feeds", {{"\n\n", 1, 1}, {"\n", 1, 2}, {feeds, 1, 3}}, {{feeds, 1, 3}}, 1, 3);
+    tracks("two line feeds", {{"A\nx\nz", 1, 1}, {"A\ny\nz", 1, 2}, {"A\n\n", 1, 3}}, {{"A\n\n", 1, 3}}, 1, 3);
+    const Keys apart = {{"A", 1, 1},         {"A\r", 1, 2},  {"A\v", 1, 3}, {"A\t", 1, 4}, {"A\x8A", 1, 5},
+                        {"A\x83\x8A", 1, 6}, {"A\\n", 1, 7}, {"", 1, 8},    {full, 1, 9}};
+    tracks("no line feed", apart, apart, 9, 9);
+    for (u64 place = 0; place < 15; place++) {
+        const Name bare(place, 'A'), fed = bare + "\n", longer = bare + "B", returned = bare + "\r";
+        const Key before = {fed, 1, 1}, other = {longer, 1, 2}, like = {returned, 1, 3}, after = {bare, 1, 4};
+        tracks("a line feed at every place", {before, other, like, after}, {after, other, like}, 3, 4);
+    }
+    const Keys after_zero = {{{"A\0\nx", 4}, 1, 1}, {{"A\0\n\n", 4}, 1, 2}, {{"\0\n", 2}, 1, 3}};
+    tracks("a line feed after the zero", after_zero, {{"A", 1, 2}, {"", 1, 3}}, 2, 2);
+}
+
+// "The tidying laws hold for the wider tracks.": the halves of a join spell the remark otherwise
+inline void tracks_of_joins() {
+    const Keys first = {{"A\nx", 1, 1}, {"A\nx", 2, 2}, {"B", 5, 3}}, second = {{"B\n", 5, 4}, {"A\ny", 2, 5}, {"A", 0, 6}};
+    const Keys stay = {second[2], first[0], second[1], second[0]}, tidy_second = {second[0], second[2], second[1]};
+    for (Section section : {bones, morphs}) {
+        const Bytes f = keys_file(section, first), wanted = keys_file(section, stay);
+        for (const Keys &half : {second, tidy_second}) {
+            const Bytes g = keys_file(section, half);
+            Bytes out(f.size() + g.size());
+            u64 written = 0;
+            equal("join", 0, vmd_join_animations(f.data(), f.size(), g.data(), g.size(), out.data(), out.size(), &written));
+            out.resize(written);
+            tidies("a join of two spellings", wanted, out, section, 6, 4);
+        }
+        tidies("its second half", keys_file(section, tidy_second), keys_file(section, second), section, 3, 3);
+    }
+}
+
 inline void takes_to_try() {
     now.call = "takes to try";
     openings();
@@ -299,6 +402,8 @@ inline void takes_to_try() {
     names();
     pairs();
     excerpts();
+    tracks_of_names();
+    tracks_of_joins();
 }
 
 // ---- every name of up to three bytes: every pair alone, behind any byte and before any

@@ -39,6 +39,7 @@ struct Case {
     // that need many, for some of them. i) "The laws of saving and joining hold in each manner over the files it accepts."
     void run() {
         count_take(a);
+        count_remarks(a);
         every_call(a);
         opening();
         fetch_own();
@@ -60,7 +61,7 @@ struct Case {
         if (sometimes(3)) equality(m);
         if (sometimes(4) && !b.in(m).refusal()) unit(m), join_reads_back(m);
         if (sometimes(4) && !b.in(m).refusal() && !d.in(m).refusal()) associativity(m);
-        if (sometimes(4)) tidy_twice(m);
+        if (sometimes(4)) tidy_twice(m), other_remarks(m);
         if (sometimes(2)) excerpt_laws(m);
     }
     bool sometimes(u64 n) { return big || r.one_in(n); }
@@ -96,7 +97,7 @@ struct Case {
         const bool none = read.refusal();
         const u64 frames = places_for(read.opening), places = none ? r.below(9) : largest_section(read);
         const u64 exact = none ? r.below(200) : canonical_size(read.take());
-        const u64 tidy_exact = none ? r.below(200) : canonical_size(model::tidied(read));
+        const u64 tidy_exact = none ? r.below(200) : canonical_size(model::tidied(f, read));
         Longs answers;
         const auto both = [&](auto call) {
             in_both(call);
@@ -466,7 +467,7 @@ struct Case {
         law(!joined.in(m).refusal() && joined.in(m).take() == join(x.take, y.take), "a join reads back");
         law(o.totals[VMD_TOTAL_SMALLEST_FRAME] == joined_smallest(x, y), "the smallest frame of a join");
         law(o.totals[VMD_TOTAL_LARGEST_FRAME] == std::max(x.largest, y.largest), "the largest of a join");
-        tidy_of_join(m, joined);
+        tidy_of_join(m, a, b, joined);
         excerpt_of_join(m, joined);
     }
 
@@ -521,7 +522,7 @@ struct Case {
     void tidying() {
         const Reading &read = a.in(Manner::lenient);
         const u64 places = (read.refusal() ? r.below(9) : largest_section(read)) + r.below(2);
-        const u64 exact = read.refusal() ? r.below(200) : canonical_size(model::tidied(read));
+        const u64 exact = read.refusal() ? r.below(200) : canonical_size(model::tidied(a, read));
         if (r.one_in(4)) in_both([&](Manner m) { c.tidy_animation(a, m, places, exact); });
         // header: "A scratch of file_len / 9 places is enough for any file."
         if (r.one_in(8)) {
@@ -554,16 +555,35 @@ struct Case {
         for (const auto &entry : kept) records.push_back(all[std::get<2>(entry)]);
         return records;
     }
+    // k) "when they agree up to the first byte 0x0A", said of two names and byte for byte
+    static bool one_track(const Name &x, const Name &y) {
+        for (u64 i = 0;; i++) {
+            const bool x_ends = i == x.size() || x[i] == 0x0A, y_ends = i == y.size() || y[i] == 0x0A;
+            if (x_ends || y_ends) return x_ends && y_ends;
+            if (x[i] != y[i]) return false;
+        }
+    }
     static Take tidy_by_definition(const Take &t) {
-        const auto same_name = [](const auto &x, const auto &y) { return x.name == y.name; };
+        const auto named = [](const auto &x, const auto &y) { return one_track(x.name, y.name); };
         const auto always = [](const auto &, const auto &) { return true; };
-        return {t.model, not_dropped(t.bones, same_name), not_dropped(t.morphs, same_name), not_dropped(t.cameras, always),
+        return {t.model, not_dropped(t.bones, named), not_dropped(t.morphs, named), not_dropped(t.cameras, always),
                 not_dropped(t.lights, always), not_dropped(t.shadows, always), not_dropped(t.properties, always)};
     }
 
+    // k) With other remarks a take has the same tracks: the season's figures are the same, and behind the take it replaces all
+    // of it.
+    void other_remarks(Manner m) {
+        const Take t = respelled(r, a.in(m).take());
+        const File other(dress(r, t, m)), joined(c.join_animations(a, other, m, canonical_size(join(a.in(m).take(), t))));
+        law(tidied(joined, m) == tidied(other, m), "a take with other remarks replaces it");
+        tidy_of_join(m, a, other, joined);
+        same_season(t);
+    }
+
     // g) "tidying a join, where its counts fit 32 bits, equals tidying the join of the two tidied takes"
-    void tidy_of_join(Manner m, const File &joined) {
-        const File left(tidied(a, m)), right(tidied(b, m));
+    void tidy_of_join(Manner m, const File &first, const File &second, const File &joined) {
+        count_spellings(first.in(m).take(), second.in(m).take());
+        const File left(tidied(first, m)), right(tidied(second, m));
         const u64 exact = canonical_size(joined.in(m).take());
         const File of_tidied(c.join_animations(left, right, m, exact));
         law(tidied(joined, m) == tidied(of_tidied, m), "tidying a join");
@@ -760,6 +780,11 @@ struct Case {
         season_limits();
     }
 
+    template <class Record> static u64 tracks(const std::vector<Record> &records) {
+        std::set<Name> names;
+        for (const Record &record : records) names.insert(up_to_line_feed(record.name));
+        return names.size();
+    }
     // b) said of the whole list, not of one take after another; i) in the lenient manner
     void season_definition() {
         Longs figures(11, 0);
@@ -778,8 +803,8 @@ struct Case {
         for (const File *f : list) {
             figures[read(f).refusal() ? VMD_SEASON_REFUSED : VMD_SEASON_ACCEPTED]++;
             if (read(f).refusal()) continue;
-            figures[VMD_SEASON_BONE_NAMES] += parts(*f, read(f)).bone_ends.size();
-            figures[VMD_SEASON_MORPH_NAMES] += parts(*f, read(f)).morph_ends.size();
+            figures[VMD_SEASON_BONE_NAMES] += tracks(read(f).take().bones);
+            figures[VMD_SEASON_MORPH_NAMES] += tracks(read(f).take().morphs);
         }
         law(c.figures.now_there(11) == figures && c.season_counts.now_there(12) == counts, "the season's definition");
         const u64 n = figures[VMD_SEASON_ACCEPTED], total = figures[VMD_SEASON_RECORDS];
@@ -933,11 +958,12 @@ static PairsMet print_pairs() {
     return fewest;
 }
 
-// i) How often each case was met that the strict manner turns down, or that is near it; gives the smallest number.
-static u64 print_strict() {
+// How often each case was met, i) that the strict manner turns down, or that is near it, and k) of names with remarks; gives
+// the smallest number.
+static u64 print_cases(const char *of, const std::map<std::string, u64> &cases) {
     u64 fewest = ~u64{0};
-    for (const auto &entry : now.strict) {
-        std::printf("strict, %s: %llu\n", entry.first.c_str(), wide_number(entry.second));
+    for (const auto &entry : cases) {
+        std::printf("%s, %s: %llu\n", of, entry.first.c_str(), wide_number(entry.second));
         fewest = std::min(fewest, entry.second);
     }
     return fewest;
@@ -960,23 +986,27 @@ static int run(u64 count, u64 seed, u64 from) {
     u64 found = 0;
     begin_strict();
     begin_cuts();
+    begin_remarks();
     for (u64 n = from; n < from + count && found < 10; n++) {
         if (n % 256 == 0 || is_big(n) || is_big(n - 1)) alarm(300);
         if (run_case(calls, files, seed, n, true)) found++;
     }
     print_answers();
     const PairsMet fewest = print_pairs();
-    const u64 fewest_strict = print_strict(), fewest_cuts = print_cuts();
+    const u64 fewest_strict = print_cases("strict", now.strict), fewest_cuts = print_cuts();
+    const u64 fewest_remarks = print_cases("names with remarks", now.remarks);
     const bool few_pairs = std::min(fewest.taken, fewest.turned_down) < count / 100;
-    const bool few_cases = std::min(fewest_strict, fewest_cuts) < count / 500;
+    const bool few_cases = std::min({fewest_strict, fewest_cuts, fewest_remarks}) < count / 500;
     const bool too_few = !found && ((count >= 1000 && few_pairs) || (count >= 10000 && few_cases));
     std::printf("model: %llu takes (%llu accepted strict, %llu lenient), %llu calls (%llu strict, %llu lenient), %llu "
                 "disagreements; names with pairs in each place: at least %llu taken, %llu turned down; cases of the strict "
-                "manner: %zu, each at least %llu times; of excerpts: %zu, each at least %llu times%s\n",
+                "manner: %zu, each at least %llu times; of excerpts: %zu, each at least %llu times; of names with remarks: "
+                "%zu, each at least %llu times%s\n",
                 wide_number(now.takes), wide_number(now.accepted_in[0]), wide_number(now.accepted_in[1]),
                 wide_number(now.calls), wide_number(now.calls_in[0]), wide_number(now.calls_in[1]), wide_number(found),
                 wide_number(fewest.taken), wide_number(fewest.turned_down), now.strict.size(), wide_number(fewest_strict),
-                now.cuts.size(), wide_number(fewest_cuts), too_few ? ", TOO FEW" : "");
+                now.cuts.size(), wide_number(fewest_cuts), now.remarks.size(), wide_number(fewest_remarks),
+                too_few ? ", TOO FEW" : "");
     return found || too_few ? 1 : 0;
 }
 

@@ -1,4 +1,4 @@
-// A model of the file library, written from document 01 (the base) and requests a) to j) of document 02. Quoted sentences are
+// A model of the file library, written from document 01 (the base) and requests a) to k) of document 02. Quoted sentences are
 // theirs; "header:" marks those of the C interface. It works on lists, copies everything, and is made to be compared with the
 // papers, not to be fast. A function named as a call of the C interface takes the contents of every buffer lent and changes
 // them into the contents after the call; where it returns a refusal it has changed nothing. One of a call that reads a whole
@@ -14,6 +14,7 @@
 #include <string>
 #include <tuple>
 #include <unordered_map>
+#include <unordered_set>
 #include <utility>
 #include <vector>
 
@@ -458,7 +459,7 @@ struct Reading {
     Opening opening;
     // worked out once, where they are asked for: see exported, tidied, parts and excerpted
     mutable std::optional<Bytes> its_export;
-    mutable std::optional<Take> its_tidied;
+    mutable std::optional<Take> its_tidied, its_raw_tidied; // the latter by raw names, for altered models alone
     mutable std::optional<Parts> its_parts;
     mutable std::optional<Excerpt> its_excerpt;
     const Take &take() const { return opening.take; }
@@ -476,7 +477,7 @@ struct File {
     }
     const Reading &in(Manner manner) const {
         auto &reading = readings[manner == Manner::strict ? 0 : 1];
-        if (!reading) reading = Reading{open(bytes, manner), {}, {}, {}, {}};
+        if (!reading) reading = Reading{open(bytes, manner), {}, {}, {}, {}, {}};
         return *reading;
     }
 };
@@ -967,10 +968,53 @@ inline u32 joined_smallest(const Opening &first, const Opening &second) {
     return std::min(first.smallest, second.smallest);
 }
 
-// ---- tidying
+// ---- tracks
 
-// The name by which tracks are told apart: the raw name, the bytes before its first zero.
-inline Name track_name(const Name &n) { return altered(TidyLineFeed) ? n.substr(0, n.find('\n')) : n; }
+// The whole field of record i's name, for altered models and for counting what a run met.
+inline Name raw_field(const Bytes &f, u64 place, u64 size, u64 i) {
+    return Name(reinterpret_cast<const char *>(f.data()) + place + size * i, bone_name_width);
+}
+
+// k) "up to the first byte 0x0A, as `vmd_registration_name` cuts them": the bytes before it, all where there is none
+inline Name up_to_line_feed(const Name &n) { return n.substr(0, n.find('\n')); }
+
+// Errors of the cut: no error, or what stands in place of the right name.
+inline std::optional<Name> altered_track_name(const Name &n) {
+    const u64 at = n.find('\n');
+    const bool passed = (altered(TrackPlace0) && at == 0) || (altered(TrackPlace7) && at == 7) ||
+                        (altered(TrackPlace8) && at == 8) || (altered(TrackPlace14) && at == 14);
+    if (passed) return n.substr(0, n.find('\n', at + 1));
+    if (altered(TrackReturn)) return n.substr(0, n.find('\r'));
+    if (altered(TrackLineEnds)) return n.substr(0, n.find_first_of("\n\v\r"));
+    if (altered(TrackSevenBits)) return n.substr(0, n.find_first_of("\n\x8A"));
+    if (altered(TrackLastLineFeed)) return n.substr(0, n.rfind('\n'));
+    if (altered(TrackWithLineFeed) && at != Name::npos) return n.substr(0, at + 1);
+    return {};
+}
+
+// k) "Two names now belong to one track when they agree up to the first byte 0x0A": the name of each record's track. Raw
+// names, and where the fields stand in the file, are for altered models alone.
+template <class Record>
+std::vector<Name> track_names(const std::vector<Record> &records, bool raw, const Bytes &f, u64 place, u64 size) {
+    std::vector<Name> names;
+    for (u64 i = 0; i < records.size(); i++) {
+        Name n = records[i].name;
+        if (altered(TrackAfterZero) && raw_field(f, place, size, i).find('\n') != Name::npos) n = raw_field(f, place, size, i);
+        names.push_back(raw ? n : altered_track_name(n).value_or(up_to_line_feed(n)));
+    }
+    return names;
+}
+
+// b) "each take's distinct bone names and distinct morph names"; k) "Season figures and tidying follow"
+template <class Record>
+u64 distinct(const std::vector<Record> &records, bool raw, const Bytes &f, u64 place, u64 size) {
+    if (altered(SeasonNameRecords)) return records.size();
+    std::vector<Name> names = track_names(records, raw, f, place, size);
+    for (u64 i = 0; altered(SeasonRawFields) && i < names.size(); i++) names[i] = raw_field(f, place, size, i);
+    return std::unordered_set<Name>(names.begin(), names.end()).size();
+}
+
+// ---- tidying
 
 inline u32 sort_key(u32 frame) {
     if (altered(TidyDescending)) return ~frame;
@@ -994,40 +1038,89 @@ template <class Record> std::vector<Record> tidy_track(const std::vector<Record>
     return kept;
 }
 
-// g) "Bone and morph tracks are the records of one name, laid one after another in order of first appearance"
-template <class Record> std::vector<Record> tidy_named(const std::vector<Record> &records) {
-    std::vector<std::vector<Record>> tracks;
-    std::unordered_map<Name, std::size_t> number;
-    for (const Record &r : records) {
-        Name key = track_name(r.name);
-        if (altered(TidyNothingDropped)) key += std::to_string(r.frame) + std::to_string(tracks.size());
-        const auto found = number.emplace(key, tracks.size());
-        if (found.second) tracks.emplace_back();
-        tracks[found.first->second].push_back(r);
-    }
-    if (altered(TidyTracksByName))
-        std::stable_sort(tracks.begin(), tracks.end(), [](const auto &a, const auto &b) { return a[0].name < b[0].name; });
+// The number of the first record of a name, or that of the records where there is none.
+template <class Record> u64 first_named(const std::vector<Record> &records, const Name &n) {
+    const auto named = [&](const Record &r) { return r.name == n; };
+    return static_cast<u64>(std::find_if(records.begin(), records.end(), named) - records.begin());
+}
+
+// Errors of the order of tracks, and of the records in one.
+template <class Record> void alter_tracks(const std::vector<Record> &records, std::vector<std::vector<Record>> &tracks) {
+    const auto sort_by = [&](auto key) {
+        std::stable_sort(tracks.begin(), tracks.end(), [&](const auto &a, const auto &b) { return key(a) < key(b); });
+    };
+    if (altered(TidyTracksByName)) sort_by([](const auto &track) { return track[0].name; });
+    const auto appears = [&](const Name &n) { return first_named(records, n); };
+    if (altered(TidyOrderBare)) sort_by([&](const auto &track) { return appears(up_to_line_feed(track[0].name)); });
+    if (altered(TidyOrderKept)) sort_by([&](const auto &track) { return appears(tidy_track(track)[0].name); });
+    if (altered(TidyFirstName))
+        for (auto &track : tracks)
+            for (Record &r : track) r.name = track[0].name;
+}
+
+// Of each frame the last record of each raw name, in file order, for altered models alone.
+template <class Record> std::vector<Record> tidy_raw_names(const std::vector<Record> &track) {
     std::vector<Record> kept;
-    for (const auto &track : tracks) extend(kept, tidy_track(track));
+    for (u64 i = 0; i < track.size(); i++) {
+        const auto later = [&](const Record &r) { return r.name == track[i].name && r.frame == track[i].frame; };
+        if (std::none_of(track.begin() + static_cast<std::ptrdiff_t>(i) + 1, track.end(), later)) kept.push_back(track[i]);
+    }
+    std::stable_sort(kept.begin(), kept.end(), [](const Record &a, const Record &b) { return a.frame < b.frame; });
     return kept;
 }
 
-// g) "each other section is one track. The model name is kept."
-inline Take tidy(const Take &t) {
+// g) "Bone and morph tracks are the records of one name, laid one after another in order of first appearance"; k) "A tidied
+// record keeps its full name."
+template <class Record>
+std::vector<Record> tidy_named(const std::vector<Record> &records, const std::vector<Name> &names) {
+    std::vector<std::vector<Record>> tracks;
+    std::unordered_map<Name, std::size_t> number;
+    for (u64 i = 0; i < records.size(); i++) {
+        Name key = names[i];
+        if (altered(TidyNothingDropped)) key += std::to_string(records[i].frame) + std::to_string(tracks.size());
+        const auto found = number.emplace(key, tracks.size());
+        if (found.second) tracks.emplace_back();
+        tracks[found.first->second].push_back(records[i]);
+    }
+    alter_tracks(records, tracks);
+    std::vector<Record> kept;
+    for (const auto &track : tracks) extend(kept, altered(TidyDropsRaw) ? tidy_raw_names(track) : tidy_track(track));
+    if (altered(TidyStandsRaw))
+        std::stable_sort(kept.begin(), kept.end(), [&](const Record &a, const Record &b) {
+            return first_named(records, a.name) < first_named(records, b.name);
+        });
+    for (Record &r : kept)
+        if (altered(TidyRemarkCut)) r.name = up_to_line_feed(r.name);
+    return kept;
+}
+
+// g) "each other section is one track. The model name is kept." The file, and raw names, are for altered models alone.
+inline Take tidy(const Take &t, const Bytes &f = {}, const std::array<u64, 6> &places = {}, bool raw = false) {
+    const bool raw_bones = raw || altered(TidyBonesRaw), raw_morphs = raw || altered(TidyMorphsRaw);
+    const std::vector<Name> of_bones = track_names(t.bones, raw_bones, f, places[bones], 111);
     Take after;
-    after.model = altered(TidyModelDropped) ? Name() : t.model;
-    after.bones = altered(TidyOneTrack) ? tidy_track(t.bones) : tidy_named(t.bones);
-    after.morphs = tidy_named(t.morphs);
+    after.model = altered(TidyModelDropped) ? Name() : altered(TidyModelCut) ? up_to_line_feed(t.model) : t.model;
+    after.bones = altered(TidyOneTrack) ? tidy_track(t.bones) : tidy_named(t.bones, of_bones);
+    after.morphs = tidy_named(t.morphs, track_names(t.morphs, raw_morphs, f, places[morphs], 23));
     after.cameras = tidy_track(t.cameras);
     after.lights = tidy_track(t.lights);
     after.shadows = tidy_track(t.shadows);
     after.properties = altered(TidyDropsNoProperty) ? t.properties : tidy_track(t.properties);
+    for (Property &p : after.properties)
+        for (Ik &ik : p.iks)
+            if (altered(TidyIksCut)) ik.name = up_to_line_feed(ik.name);
     return after;
 }
 
-inline const Take &tidied(const Reading &f) {
-    if (!f.its_tidied) f.its_tidied = tidy(f.take());
+inline const Take &tidied(const File &file, const Reading &f) {
+    if (!f.its_tidied) f.its_tidied = tidy(f.take(), file.bytes, f.opening.places);
     return *f.its_tidied;
+}
+// With tracks of raw names where that is the error.
+inline const Take &tidied_but(Alteration which, const File &file, const Reading &f) {
+    if (!altered(which)) return tidied(file, f);
+    if (!f.its_raw_tidied) f.its_raw_tidied = tidy(f.take(), file.bytes, f.opening.places, true);
+    return *f.its_raw_tidied;
 }
 
 inline std::array<u32, 6> section_counts(const Take &t) {
@@ -1060,8 +1153,8 @@ inline int tidy_size(const File &file, Manner manner, Longs &scratch, Longs &siz
         if (scratch.size() < tidy_places(on->take())) return 3;
     if (f.refusal()) return f.refusal();
     if (scratch.size() < tidy_places(f.take())) return 3;
-    size = {canonical_size(tidied(f))};
-    tidy_done(f.take(), tidied(f), scratch, kept, dropped);
+    size = {canonical_size(tidied_but(TidySizeRaw, file, f))};
+    tidy_done(f.take(), tidied_but(TidyNumbersRaw, file, f), scratch, kept, dropped);
     return 0;
 }
 
@@ -1072,12 +1165,14 @@ inline int tidy_animation(const File &file, Manner manner, Longs &scratch, Bytes
     if (const Reading *on = late(StrictTidyAfter3, file, manner))
         if (scratch.size() < tidy_places(on->take())) return 3;
     if (const Reading *on = late(StrictTidyAfter13, file, manner))
-        if (scratch.size() >= tidy_places(on->take()) && out.size() < canonical_size(tidied(*on))) return 13;
+        if (scratch.size() >= tidy_places(on->take()) && out.size() < canonical_size(tidied(file, *on))) return 13;
     if (f.refusal()) return f.refusal();
-    if (altered(TidyThreeLast) && out.size() < canonical_size(tidied(f))) return 13;
+    if (altered(TidyThreeLast) && out.size() < canonical_size(tidied(file, f))) return 13;
     if (scratch.size() < tidy_places(f.take())) return 3;
-    if (const int refusal = save(canonical(tidied(f)), out, written)) return refusal;
-    tidy_done(f.take(), tidied(f), scratch, kept, dropped);
+    // header: "With a shorter out the kept records are first counted"
+    if (altered(TidyShortRaw) && out.size() < canonical_size(tidied_but(TidyShortRaw, file, f))) return 13;
+    if (const int refusal = save(canonical(tidied(file, f)), out, written)) return refusal;
+    tidy_done(f.take(), tidied_but(TidyNumbersRaw, file, f), scratch, kept, dropped);
     return 0;
 }
 
@@ -1295,12 +1390,8 @@ template <class A, class B, class F> void pairwise(A &a, B &b, F f) {
     f(a.weights, b.weights);
 }
 
-// The whole field of record i's name, for altered models alone.
-inline Name raw_field(const Bytes &f, u64 place, u64 size, u64 i) {
-    return Name(reinterpret_cast<const char *>(f.data()) + place + size * i, bone_name_width);
-}
-
-// a) "Name tables hold distinct raw names in order of first appearance, and each record gets its index."
+// a) "Name tables hold distinct raw names in order of first appearance, and each record gets its index."; k) "parts out of a
+// take still tell raw names apart"
 struct Table {
     std::vector<Name> names;
     Words indices;
@@ -1310,7 +1401,7 @@ template <class Record> Table table(const std::vector<Record> &records, const By
     std::unordered_map<Name, u32> index;
     for (const Record &r : records) {
         Name key = r.name;
-        if (altered(SplitLineFeed)) key = key.substr(0, key.find('\n'));
+        if (altered(SplitLineFeed)) key = up_to_line_feed(key);
         if (altered(SplitRawFields)) key = raw_field(f, place, size, t.indices.size());
         const auto found = index.emplace(key, static_cast<u32>(t.names.size()));
         if (found.second) t.names.push_back(r.name);
@@ -1391,6 +1482,10 @@ inline int split_sizes(const File &file, Manner manner, Longs &sizes) {
     const Parts &p = parts(file, f);
     if (table_passes(p)) return 14;
     sizes = table_sizes(p);
+    if (altered(SplitSizesTracks)) {
+        sizes[0] = distinct(f.take().bones, false, file.bytes, f.opening.places[bones], 111);
+        sizes[2] = distinct(f.take().morphs, false, file.bytes, f.opening.places[morphs], 23);
+    }
     return 0;
 }
 
@@ -1716,15 +1811,6 @@ inline void season_none(Words &counts, Longs &figures) {
     figures.assign(11, 0);
 }
 
-// b) "each take's distinct bone names and distinct morph names"
-template <class Record> u64 distinct(const std::vector<Record> &records, const Bytes &f, u64 place, u64 size) {
-    if (altered(SeasonNameRecords)) return records.size();
-    std::unordered_map<Name, bool> names;
-    for (u64 i = 0; i < records.size(); i++)
-        names[altered(SeasonRawFields) ? raw_field(f, place, size, i) : records[i].name] = true;
-    return names.size();
-}
-
 // What one accepted take adds to the 64-bit figures, refused left out.
 inline Longs season_share(const Bytes &f, const Opening &o) {
     Longs share(11, 0);
@@ -1733,8 +1819,8 @@ inline Longs season_share(const Bytes &f, const Opening &o) {
         share[season_total + s] = counts[s];
         if (s < 5 || !altered(SeasonFirstFive)) share[season_records] += counts[s];
     }
-    share[season_bone_names] = distinct(o.take.bones, f, o.places[bones], 111);
-    share[season_morph_names] = distinct(o.take.morphs, f, o.places[morphs], 23);
+    share[season_bone_names] = distinct(o.take.bones, altered(SeasonBonesRaw), f, o.places[bones], 111);
+    share[season_morph_names] = distinct(o.take.morphs, altered(SeasonMorphsRaw), f, o.places[morphs], 23);
     share[season_accepted] = 1;
     return share;
 }

@@ -89,13 +89,40 @@ inline Name bare_name(Rng &r, u64 width) {
 
 // A few names that are prefixes of each other, differ after a line feed, fill the field or are empty.
 inline Name some_name(Rng &r, u64 width, bool clean) {
-    static const std::vector<Name> common = {"", "A", "AB", "A\n", "A\n1", "\n", "\x83\x41", "\x83\x41\x42", "center"};
+    static const std::vector<Name> common = {"",   "A",   "AB",       "A\n",          "A\n1",  "A\n2",
+                                             "\n", "\n1", "\x83\x41", "\x83\x41\x42", "center"};
     if (r.one_in(2)) return r.pick(common);
     if (r.one_in(6)) return Name(width, 'x');
     if (clean || r.one_in(2)) return good_name(r, width);
     Name n;
     for (u64 length = r.below(width + 1); n.size() < length;) n += static_cast<char>(1 + r.below(255));
     return n;
+}
+
+// k) "Some editors add a line feed and a remark to a name.": names of one track, cut at any place, most often where words of
+// eight bytes meet and at both ends, and some that have another byte in place of the line feed.
+inline Name some_track(Rng &r) {
+    static const std::vector<u64> places = {0, 7, 8, 9, 14};
+    const u64 length = r.one_in(4) ? r.pick(places) : r.below(15);
+    Name n = r.one_in(3) ? Name() : good_name(r, length);
+    std::replace(n.begin(), n.end(), '\n', 'n');
+    n.resize(length, 'x');
+    return n;
+}
+inline Name with_remark(Rng &r, const Name &track) {
+    static const std::vector<Name> like = {"\r", "\v", "\x83\x8A", "\x8A\x41"};
+    const Name mark = r.one_in(3) ? r.pick(like) : r.one_in(8) ? Name("\n\n") : Name("\n");
+    const u64 length = track.size() + mark.size();
+    if (r.one_in(4) || length > 15) return track;
+    return track + mark + (r.one_in(3) ? Name(r.below(16 - length), r.one_in(2) ? 'x' : 'y') : good_name(r, 15 - length));
+}
+inline std::vector<Name> names_with_remarks(Rng &r) {
+    std::vector<Name> names;
+    for (u64 tracks = r.one_in(3) ? 2 : 1; tracks > 0; tracks--) {
+        const Name track = some_track(r);
+        for (u64 n = 2 + r.below(3); n > 0; n--) names.push_back(with_remark(r, track));
+    }
+    return names;
 }
 
 inline u32 some_float(Rng &r, bool clean) {
@@ -119,6 +146,7 @@ inline Pool some_pool(Rng &r) {
     static const Words ends = {0, 0, 1, 0xFFFFFFFF, 0xFFFFFFFF, 0xFFFFFFFE, 0x7FFFFFFF, 0x80000000};
     Pool p;
     p.clean = r.one_in(2);
+    if (r.one_in(2)) p.names = names_with_remarks(r);
     for (u64 n = 1 + r.below(5); p.names.size() < n;) p.names.push_back(some_name(r, 15, p.clean));
     for (u64 n = 1 + r.below(3); p.ik_names.size() < n;) p.ik_names.push_back(some_name(r, 20, p.clean));
     const u32 low = r.one_in(3) ? 0 : r.word() % 100;
@@ -182,8 +210,19 @@ inline void spoil_name(Rng &r, Take &t) {
     iks[r.below(iks.size())].name = bare_name(r, 20);
 }
 
-inline Take some_take(Rng &r) {
-    const Pool p = some_pool(r);
+// k) The same take in tracks, with other remarks: names that come again come with several.
+inline Take respelled(Rng &r, Take t) {
+    const auto other = [&r](const Name &n) {
+        const Name track = up_to_line_feed(n);
+        const bool bare = r.one_in(3) || track.size() == 15;
+        return bare ? track : track + "\n" + good_name(r, 14 - track.size());
+    };
+    for (Bone &b : t.bones) b.name = other(b.name);
+    for (Morph &m : t.morphs) m.name = other(m.name);
+    return t;
+}
+
+inline Take some_take(Rng &r, const Pool &p) {
     Take t;
     if (!r.one_in(4)) t.model = some_name(r, r.one_in(2) ? 11 : 20, p.clean);
     if (r.one_in(12)) return t;
@@ -194,16 +233,17 @@ inline Take some_take(Rng &r) {
     for (u64 n = some_count(r); t.shadows.size() < n;) t.shadows.push_back(some_shadow(r, p));
     for (u64 n = some_property_count(r); t.properties.size() < n;) t.properties.push_back(some_property(r, p));
     if (p.clean && r.one_in(4)) spoil_name(r, t);
-    return t;
+    return r.one_in(6) ? respelled(r, t) : t;
 }
+inline Take some_take(Rng &r) { return some_take(r, some_pool(r)); }
 
 template <class List> void shuffle(Rng &r, List &list) {
     for (u64 i = list.size(); i > 1; i--) std::swap(list[i - 1], list[r.below(i)]);
 }
 
-// Different names that agree in their first bytes, in their last, or in nothing.
+// Different names that agree in their first bytes, in their last, up to a line feed, or in nothing.
 inline std::vector<Name> different_names(Rng &r, u64 n) {
-    const u64 shape = r.below(4);
+    const u64 shape = r.below(6), tracks = 1 + r.below(n);
     std::vector<Name> names;
     for (u64 i = 0; i < n; i++) {
         const Name digits = std::to_string(1000000 + i);
@@ -211,6 +251,8 @@ inline std::vector<Name> different_names(Rng &r, u64 n) {
         if (shape == 1) names.push_back("eight by" + digits);
         if (shape == 2) names.push_back(digits + "\n eight.");
         if (shape == 3) names.push_back({char(1 + i % 255), char(1 + i / 255 % 255), char(1 + i / 65025 % 255)});
+        if (shape == 4) names.push_back("n" + std::to_string(i % tracks) + "\n" + std::to_string(i));
+        if (shape == 5) names.push_back(std::to_string(1000000 + i % tracks) + (i < tracks ? "" : "\n" + std::to_string(i)));
     }
     return names;
 }
@@ -274,7 +316,7 @@ struct Dress {
     bool loose;
     Bytes out;
 
-    u8 rest() { return loose ? r.byte() : u8{0}; }
+    u8 rest() { return !loose ? u8{0} : r.one_in(8) ? u8{'\n'} : r.byte(); }
     u8 not_zero() { return loose && r.one_in(2) ? static_cast<u8>(2 + r.below(254)) : u8{1}; }
     void word(u32 value) { model::put(out, value); }
     template <class List> void words(const List &list) {
@@ -523,7 +565,9 @@ constexpr u64 big_every = 32768;
 inline bool is_big(u64 n) { return n % big_every == 1000; }
 
 inline Bytes derived(Rng &r) {
-    const Take first = some_take(r), second = some_take(r);
+    const Pool p = some_pool(r);
+    const Take first = some_take(r, p), other = r.one_in(3) ? respelled(r, first) : some_take(r, p);
+    const Take second = r.one_in(2) ? some_take(r) : other;
     switch (r.below(5)) {
     case 0: return canonical(first);
     case 1: return canonical(join(first, second));

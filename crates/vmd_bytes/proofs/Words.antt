@@ -1,18 +1,18 @@
 -- Laws of words: a word cut after its first zero byte has the canonical bytes. Byte by byte, for every number of bytes. Assumes nothing.
 use mathlib.Core.Path.{_≡_, refl, sym, ap, _∙_}
 use mathlib.Core.Bool.{Bool, true, false, cond, _&&_}
-use mathlib.Core.List.{List, [], _∷_, _++_}
+use mathlib.Core.List.{List, [], _∷_, _++_, map}
 use mathlib.Core.Logic.{⊎-elim}
 use Prim.Native.Nat.{ℕ, zero, suc, _+_, _*_, _/_, _%_, _≤_, _<_}
 use native.Mathlib.Nat.{mod-lt, div-add-mod', mod-eq-of-lt, le-of-suc-le-suc, not-suc-le-zero, suc-ne-zero, add-zero, eq-or-lt-of-le}
 use native.Mathlib.Omega.{arith}
 use lib.Dec.{T, eqb, eqb→eq}
-use lib.Bits.{bitAnd, bitOr, bitXor, and-block, or-block, xor-block, and-le-r, or-lt, and-mask, and-zero-r, xor-zero-l, xor-self}
+use lib.Bits.{bitAnd, bitOr, bitXor, and-block, or-block, xor-block, and-le-r, or-lt, xor-lt, and-mask, and-zero-r, xor-zero-l, xor-self}
 use lib.ListN.{length, drop, getD, replicate}
 use borrow.Author.Tests.{ne-eqb}
 use Rattle.vmd_format.specs.Bytes.{u32, u32-bytes}
 use Rattle.vmd_bytes.specs.Slices.{run}
-use Rattle.vmd_bytes.specs.Fields.{no-zero, canonical}
+use Rattle.vmd_bytes.specs.Fields.{no-zero, canonical, blank}
 use Rattle.vmd_bytes.specs.Words.{digits, repeated, zeros, up-to}
 use Rattle.vmd_bytes.proofs.Laws.{part-cons, part-zero, u32-drop, canonical-nil, canonical-zero, canonical-suc}
 
@@ -241,3 +241,83 @@ digits-cut (suc n) x =
 pub digits-masked : (n x : ℕ) (live : Bool) → digits n (bitAnd x (cond live (up-to n (zeros n x)) 0)) ≡ canonical live (digits n x)
 digits-masked n x true = digits-cut n x
 digits-masked n x false = rw (and-zero-r x) (digits-zero n (digits n x) (length-digits n x))
+
+-- ---- line feeds
+
+-- each flag is 128 or 0
+flag-whole : (b : ℕ) → b < 256 → (flag b % 128 ≡ 0) × (flag b < 256)
+flag-whole zero h = (refl, omega arith)
+flag-whole (suc b) h = rw (flag-suc b h) (refl, omega arith)
+
+flags-whole : (n x : ℕ) → zeros n x % 128 ≡ 0
+flags-whole zero x = unfold zeros repeated in rw (and-zero-r (bitOr (bitAnd x 0 + 0) x))
+flags-whole (suc n) x =
+    let e = flags-whole n (x / 256) in
+    let f = flag-whole (x % 256) (mod-lt x (omega arith)) .0 in
+    rw (split x) (rw (zeros-block n (x / 256) (x % 256) (mod-lt x (omega arith))) (sum (zeros n (x / 256)) (flag (x % 256)) e f))
+  where
+    sum : (a b : ℕ) → a % 128 ≡ 0 → b % 128 ≡ 0 → (a * 256 + b) % 128 ≡ 0
+    sum a b e f = omega arith
+
+-- flags of line feeds as tens, byte by byte
+tens-block : (a f : ℕ) → a % 128 ≡ 0 → f % 128 ≡ 0 → (a * 256 + f) / 128 * 10 ≡ a / 128 * 10 * 256 + f / 128 * 10
+tens-block a f h k = omega arith
+
+-- a byte with its ten taken off where it is a line feed: a test over all of them
+fed : ℕ → ℕ
+fed b = bitXor b (flag (bitXor b 10) / 128 * 10)
+
+tested-feeds : ℕ → Bool
+tested-feeds zero = true
+tested-feeds (suc n) = tested-feeds n && eqb (fed n) (blank n)
+
+all-feeds : T (tested-feeds 256)
+unfolding tested-feeds fed blank
+all-feeds = tt
+
+feeds-at : (n k : ℕ) → k < n → T (tested-feeds n) → fed k ≡ blank k
+unfolding tested-feeds
+feeds-at zero k h t = absurd (not-suc-le-zero h)
+feeds-at (suc n) k h t =
+    ⊎-elim
+    (λ (q : k ≡ n). rw q (eqb→eq (fed n) (blank n) (and-right (tested-feeds n) (eqb (fed n) (blank n)) t)))
+    (λ (m : k < n). feeds-at n k m (and-left (tested-feeds n) (eqb (fed n) (blank n)) t))
+    (eq-or-lt-of-le (le-of-suc-le-suc h))
+
+abbrev blanked : ℕ → ℕ → ℕ
+blanked n x = bitXor x (zeros n (bitXor x (repeated 10 n)) / 128 * 10)
+
+blanked-block : (n a b : ℕ) → b < 256 → blanked (suc n) (a * 256 + b) ≡ blanked n a * 256 + blank b
+blanked-block n a b h =
+    let r : ℕ = repeated 10 n in
+    let q : repeated 10 (suc n) ≡ r * 256 + 10 = (unfold repeated in refl) in
+    let p : bitXor b 10 < 256 = xor-lt 8 b 10 h (omega arith) in
+    let f : ℕ = flag (bitXor b 10) in
+    let w = flag-whole (bitXor b 10) p in
+    let t : bitXor b (f / 128 * 10) ≡ blank b = (unfold fed in feeds-at 256 b h all-feeds) in
+    rw (
+      q,
+      xor-block 8 a r b 10 h (omega arith),
+      zeros-block n (bitXor a r) (bitXor b 10) p,
+      tens-block (zeros n (bitXor a r)) f (flags-whole n (bitXor a r)) (w .0),
+      xor-block 8 a (zeros n (bitXor a r) / 128 * 10) b (f / 128 * 10) h (omega (arith, w .1)),
+      t,
+    )
+
+blank-small : (b : ℕ) → b < 256 → blank b < 256
+unfolding blank
+blank-small b h = go (eqb b 10)
+  where
+    go : (x : Bool) → cond x 0 b < 256
+    go true = omega arith
+    go false = h
+
+blanked-at : (n a b : ℕ) → b < 256 → digits n (blanked n a) ≡ map blank (digits n a) → digits (suc n) (blanked (suc n) (a * 256 + b)) ≡ map blank (digits (suc n) (a * 256 + b))
+blanked-at n a b h ih = rw (blanked-block n a b h, digits-block n (blanked n a) (blank b) (blank-small b h), digits-block n a b h, ih)
+
+-- LAW: the bytes of a word without its line feeds
+pub digits-blanked : (n x : ℕ) → digits n (blanked n x) ≡ map blank (digits n x)
+unfolding digits
+digits-blanked zero x = refl
+digits-blanked (suc n) x =
+    rw (split x) (blanked-at n (x / 256) (x % 256) (mod-lt x (omega arith)) (digits-blanked n (x / 256)))

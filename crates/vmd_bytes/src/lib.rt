@@ -2,6 +2,7 @@
 // the lengths.
 ghost use mathlib.Core.Path.{_≡_};
 ghost use mathlib.Core.Bool.{true, cond, not, _&&_};
+ghost use mathlib.Core.List.{map};
 ghost use Prim.Native.Nat.{_+_, _≤_, _<_, max, min};
 ghost use lib.Dec.{eqb};
 ghost use lib.ListN.{length, take, drop, replicate};
@@ -11,7 +12,7 @@ ghost use Rattle.vmd_format.specs.Characters.{between};
 ghost use Rattle.vmd_format.specs.Take.{same};
 ghost use Rattle.vmd_format.specs.Parts.{finite};
 ghost use Rattle.vmd_bytes.specs.Slices.{splice, run};
-ghost use Rattle.vmd_bytes.specs.Fields.{no-zero, canonical};
+ghost use Rattle.vmd_bytes.specs.Fields.{no-zero, canonical, blank};
 ghost use Rattle.vmd_bytes.specs.Words.{digits, zeros, up-to};
 
 // ---- numbers
@@ -221,6 +222,15 @@ pub fn live_after_word(live: bool, x: u64) -> bool
 {
     let no_zero = zeros_in(x) == 0;
     live && no_zero
+}
+
+// The eight bytes x, with a zero for each line feed. A line feed is a zero byte once 10 is taken off by `^`, which gives 128 in
+// its byte; as 10 that takes off the byte itself.
+pub fn blank_line_feeds(x: u64) -> u64
+    ensures { λ r. ⌜ digits 8 r ≡ map blank (digits 8 x) ⌝ }
+{
+    let m = zeros_in(x ^ 0x0a0a_0a0a_0a0a_0a0a);
+    x ^ (m / 128 * 10)
 }
 
 // Whether the name has not ended after the byte b.

@@ -19,7 +19,7 @@ use Rattle.vmd_format.specs.Parts.{take-of-parts}
 use Rattle.vmd_parts.specs.Building.{Slices, Typed, parts, built-answer, built-file, build-back}
 use Rattle.vmd_export.specs.Demand3.{exported, joined, Enough, export-back-in, join-back-in}
 use Rattle.vmd_export.specs.Older.{converted, OlderEnough, converted-back-in}
-use Rattle.vmd_tidy.specs.Tidied.{tidy}
+use Rattle.vmd_tracks.specs.Tidy.{tidy}
 use Rattle.vmd_tidy.specs.Tidying as tidying
 
 -- x is what a call left in its output: a file. Opening it with this scratch gives no refusal, and the figures of the take; and

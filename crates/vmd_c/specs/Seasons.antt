@@ -1,10 +1,17 @@
 -- The calls for a season over a list of files: slots that one call filled say its season to the next, so that after the last
--- they hold the figures of the list.
+-- they hold the figures of the list. And what tidying does to a take's figures.
 use Prim.Native.Nat.{ℕ}
-use mathlib.Core.Path.{_≡_, refl}
-use mathlib.Core.List.{List, [], _∷_}
+use mathlib.Core.Path.{_≡_, refl, ap, sym, _∙_}
+use mathlib.Core.List.{List, [], _∷_, map}
+use lib.ListN.{length}
 use Rattle.vmd_format.specs.Read.{lenient}
-use Rattle.vmd_season.specs.Season.{Season, no-takes, with-file, season-from, season, mean}
+use Rattle.vmd_format.specs.Take.{Take}
+use Rattle.vmd_keys.specs.Names.{bone-names-of, morph-names-of, registration-name, distinct}
+use Rattle.vmd_tracks.specs.Tracks.{tidy-section}
+use Rattle.vmd_tracks.specs.TrackLaws.{names-tidy}
+use Rattle.vmd_tracks.specs.RankedLaws.{map-two}
+use Rattle.vmd_tracks.specs.Tidy.{tidy-by, tidy}
+use Rattle.vmd_season.specs.Season.{figures-of, Season, no-takes, with-file, season-from, season, mean}
 use Rattle.vmd_slots.specs.Meaning.{season-counts, season-figures, section-at, season-at, mean-words}
 
 pub record Slots : Type 0 where
@@ -46,3 +53,16 @@ mean-without counts figures = refl
 pub own-mean : (z : Season) → mean-words (mean (season-at [] (season-figures z))) ≡ mean-words (mean z)
 unfolding season-figures section-at season-at mean
 own-mean z = refl
+
+-- 02 k): season figures and tidying go by the same tracks, so that a tidied take has as many names as before
+tidy-tracks : {A : Type 0} (nm : A → List ℕ) (frame : A → ℕ) (l : List A)
+    → length (distinct (map registration-name (map nm (tidy-section (λ a. registration-name (nm a)) frame l))))
+    ≡ length (distinct (map registration-name (map nm l)))
+tidy-tracks nm frame l =
+    ap (λ k. length (distinct k)) (map-two registration-name nm (tidy-section (λ a. registration-name (nm a)) frame l))
+    ∙ ap length (names-tidy (λ a. registration-name (nm a)) frame l)
+    ∙ sym (ap (λ k. length (distinct k)) (map-two registration-name nm l))
+
+pub tidied-names : (t : Take) → (figures-of (tidy t) .bone-names ≡ figures-of t .bone-names) × (figures-of (tidy t) .morph-names ≡ figures-of t .morph-names)
+unfolding figures-of bone-names-of morph-names-of tidy tidy-by
+tidied-names t = (tidy-tracks (λ b. b .name) (λ b. b .frame) (t .bones), tidy-tracks (λ m. m .name) (λ m. m .frame) (t .morphs))

@@ -14,9 +14,12 @@ use Rattle.vmd_format.specs.Parts.{upto}
 use Rattle.vmd_laws.specs.PartsLaws.{all-map, upto-length, upto-below}
 use Rattle.vmd_format.specs.Read.{write-all}
 use Rattle.vmd_laws.specs.ReadLaws.{All}
-use Rattle.vmd_keys.specs.Names.{name-in, names-in, distinct}
+use Rattle.vmd_keys.specs.declared.VmdCut.{VmdCut}
+use Rattle.vmd_keys.specs.declared.VmdCut.the-variants as cut
+use Rattle.vmd_keys.specs.Names.{name-in, names-in, cut-name, cut-names, distinct}
+use Rattle.vmd_keys.specs.NameLaws.{cut-each}
 use Rattle.vmd_keys.specs.Keys.{top, spot, key}
-use Rattle.vmd_keys.specs.KeyLaws.{name-short, spot-in, key-tells, key-top}
+use Rattle.vmd_keys.specs.KeyLaws.{cut-good, spot-in, key-tells, key-top}
 use Rattle.vmd_count.specs.DistinctLaws.{all-then, map-same, member-named, Once, here, there, all-distinct, distinct-short, once-distinct}
 use Rattle.vmd_count.specs.Held.{low, high, name-length, sum-of, name-key, weight-if, sum-below, weight-below, one, Found, Row, Tallied}
 use Rattle.vmd_count.proofs.HeldLaws.{low-none, low-some, high-none, high-some}
@@ -201,30 +204,31 @@ sum-ones (suc k) b = let e = sum-ones k b in omega arith
 
 -- ---- a section of a file
 
-module _ (s : List ℕ) (at size n : ℕ) where
+module _ (c : VmdCut) (s : List ℕ) (at size n : ℕ) where
   abbrev found : List (List ℕ)
-  found = distinct (names-in s at size n)
+  found = distinct (cut-names c (names-in s at size n))
 
   abbrev spot-name : ℕ → List ℕ
-  spot-name i = name-in s (spot at size n i)
+  spot-name i = cut-name c (name-in s (spot at size n i))
 
   found-is : distinct (map spot-name (upto 0 n)) ≡ found
   unfolding names-in
   found-is =
-      ap distinct (map-same spot-name (λ i. name-in s (at + size * i)) (upto 0 n)
-      (all-then (λ i. i < n) (λ i. spot-name i ≡ name-in s (at + size * i)) (λ i h. ap (name-in s) (spot-in at size n i h)) (upto 0 n) (upto-below n 0 n (omega arith))))
+      ap distinct (map-same spot-name (λ i. cut-name c (name-in s (at + size * i))) (upto 0 n)
+      (all-then (λ i. i < n) (λ i. spot-name i ≡ cut-name c (name-in s (at + size * i))) (λ i h. ap (λ (p : ℕ). cut-name c (name-in s p)) (spot-in at size n i h)) (upto 0 n) (upto-below n 0 n (omega arith)))
+      ∙ sym (cut-each c (λ i. name-in s (at + size * i)) (upto 0 n)))
 
-  row-weighs : Bytes s → (w : List ℕ → ℕ) (lo hi k : ℕ) (b : List ℕ) → Row (key s at size n) n lo hi k b → lo ≤ hi
-      → weight-below s at size n w lo + sum-of (λ x. w (spot-name x)) k b ≡ weight-below s at size n w hi
+  row-weighs : Bytes s → (w : List ℕ → ℕ) (lo hi k : ℕ) (b : List ℕ) → Row (key c s at size n) n lo hi k b → lo ≤ hi
+      → weight-below c s at size n w lo + sum-of (λ x. w (spot-name x)) k b ≡ weight-below c s at size n w hi
   unfolding key name-key weight-below
-  row-weighs bs w lo hi k b r h = rw (← found-is) (row-counts spot-name n name-key w (key-tells s at size n bs) lo hi k b r h)
+  row-weighs bs w lo hi k b r h = rw (← found-is) (row-counts spot-name n name-key w (key-tells c s at size n bs) lo hi k b r h)
 
-  pub row-names : Bytes s → (lo hi k : ℕ) (b : List ℕ) → Row (key s at size n) n lo hi k b → lo ≤ hi
-      → weight-below s at size n one lo + k ≡ weight-below s at size n one hi
+  pub row-names : Bytes s → (lo hi k : ℕ) (b : List ℕ) → Row (key c s at size n) n lo hi k b → lo ≤ hi
+      → weight-below c s at size n one lo + k ≡ weight-below c s at size n one hi
   row-names bs lo hi k b r h = let e = row-weighs bs one lo hi k b r h in let q = sum-ones k b in omega arith
 
-  pub row-bytes : Bytes s → (lo hi k x : ℕ) (b : List ℕ) → Row (key s at size n) n lo hi k b → lo ≤ hi
-      → x ≡ sum-of (name-length s at size n) k b → weight-below s at size n length lo + x ≡ weight-below s at size n length hi
+  pub row-bytes : Bytes s → (lo hi k x : ℕ) (b : List ℕ) → Row (key c s at size n) n lo hi k b → lo ≤ hi
+      → x ≡ sum-of (name-length c s at size n) k b → weight-below c s at size n length lo + x ≡ weight-below c s at size n length hi
   unfolding name-length
   row-bytes bs lo hi k x b r h e = rw e (row-weighs bs length lo hi k b r h)
 
@@ -234,68 +238,69 @@ module _ (s : List ℕ) (at size n : ℕ) where
   found-few : length found ≤ n
   found-few = subst (λ z. length z ≤ n) found-is (names-few spot-name n)
 
-  pub names-most : (hi : ℕ) → weight-below s at size n one hi ≤ n
+  pub names-most : (hi : ℕ) → weight-below c s at size n one hi ≤ n
   unfolding weight-below
   names-most hi = let x = below-most name-key one 1 hi found (found-each _ (λ i. omega arith)) in let y = found-few in omega arith
 
-  pub bytes-most : Bytes s → (hi : ℕ) → weight-below s at size n length hi ≤ 15 * n
+  pub bytes-most : Bytes s → (hi : ℕ) → weight-below c s at size n length hi ≤ 15 * n
   unfolding weight-below
   bytes-most bs hi =
-      let x = below-most name-key length 15 hi found (found-each _ (λ i. name-short s bs (spot at size n i))) in
+      let x = below-most name-key length 15 hi found (found-each _ (λ i. cut-good c s bs (spot at size n i) .short)) in
       let y = found-few in omega arith
 
   found-top : Bytes s → All (λ d. name-key d < top) found
   unfolding name-key key
-  found-top bs = found-each _ (λ i. key-top s at size n bs i)
+  found-top bs = found-each _ (λ i. key-top c s at size n bs i)
 
-  names-whole : Bytes s → weight-below s at size n one top ≡ length found
+  names-whole : Bytes s → weight-below c s at size n one top ≡ length found
   unfolding weight-below
   names-whole bs = names-all name-key top found (found-top bs)
 
-  bytes-whole : Bytes s → weight-below s at size n length top ≡ length (write-all (λ d. d) found)
+  bytes-whole : Bytes s → weight-below c s at size n length top ≡ length (write-all (λ d. d) found)
   unfolding weight-below
   bytes-whole bs = bytes-all name-key top found (found-top bs)
 
-pub none-found : (s : List ℕ) (at size n : ℕ) → n ≡ 0
-    → (0 ≡ length (distinct (names-in s at size n))) × (0 ≡ length (write-all (λ d. d) (distinct (names-in s at size n))))
+pub none-found : (c : VmdCut) (s : List ℕ) (at size n : ℕ) → n ≡ 0
+    → (0 ≡ length (distinct (cut-names c (names-in s at size n)))) × (0 ≡ length (write-all (λ d. d) (distinct (cut-names c (names-in s at size n)))))
 unfolding names-in upto distinct write-all
-none-found s at size n e = rw e (refl, refl)
+none-found cut.Whole s at size n e = rw e (refl, refl)
+none-found cut.LineFeed s at size n e = rw e (refl, refl)
 
 -- the lengths of one place more
-pub sum-start : (s : List ℕ) (at size n : ℕ) (b : List ℕ) → 0 ≡ sum-of (name-length s at size n) 0 b
+pub sum-start : (c : VmdCut) (s : List ℕ) (at size n : ℕ) (b : List ℕ) → 0 ≡ sum-of (name-length c s at size n) 0 b
 unfolding sum-of
-sum-start s at size n b = refl
+sum-start c s at size n b = refl
 
-pub sum-turn : (s : List ℕ) (at size n i sum x : ℕ) (b : List ℕ) → sum ≡ sum-of (name-length s at size n) i b
-    → x ≡ length (name-in s (spot at size n (getD b i 0))) → sum + x ≡ sum-of (name-length s at size n) (i + 1) b
-sum-turn s at size n i sum x b e d = rw add-one (go d)
+pub sum-turn : (c : VmdCut) (s : List ℕ) (at size n i sum x : ℕ) (b : List ℕ) → sum ≡ sum-of (name-length c s at size n) i b
+    → x ≡ length (cut-name c (name-in s (spot at size n (getD b i 0)))) → sum + x ≡ sum-of (name-length c s at size n) (i + 1) b
+sum-turn c s at size n i sum x b e d = rw add-one (go d)
   where
-    go : x ≡ length (name-in s (spot at size n (getD b i 0))) → sum + x ≡ sum-of (name-length s at size n) (suc i) b
+    go : x ≡ length (cut-name c (name-in s (spot at size n (getD b i 0)))) → sum + x ≡ sum-of (name-length c s at size n) (suc i) b
     go d = unfold sum-of name-length in rw (e, d)
 
 -- ---- pass after pass
 
-module _ (s : List ℕ) (at size n : ℕ) where
+module _ (c : VmdCut) (s : List ℕ) (at size n : ℕ) where
   abbrev f : ℕ → ℕ
-  f = key s at size n
+  f = key c s at size n
 
-  pub count-start : (w : List ℕ → ℕ) → 0 ≡ weight-below s at size n w (low f 0)
+  pub count-start : (w : List ℕ → ℕ) → 0 ≡ weight-below c s at size n w (low f 0)
   unfolding weight-below
-  count-start w = rw (low-none f {c = 0} refl) (sym (below-none name-key w (distinct (names-in s at size n))))
+  count-start w = rw (low-none f {c = 0} refl) (sym (below-none name-key w (distinct (cut-names c (names-in s at size n)))))
 
-  module _ (floor ceil names bytes x y : ℕ) (p : names ≡ weight-below s at size n one (low f floor))
-      (q : bytes ≡ weight-below s at size n length (low f floor)) (t : Tallied s at size n floor ceil x y) where
+  module _ (floor ceil names bytes x y : ℕ) (p : names ≡ weight-below c s at size n one (low f floor))
+      (q : bytes ≡ weight-below c s at size n length (low f floor)) (t : Tallied c s at size n floor ceil x y) where
     pub count-more : ¬ (ceil ≡ 0)
-        → (names + x ≡ weight-below s at size n one (low f ceil)) × (bytes + y ≡ weight-below s at size n length (low f ceil))
+        → (names + x ≡ weight-below c s at size n one (low f ceil)) × (bytes + y ≡ weight-below c s at size n length (low f ceil))
     count-more d =
         let e : high f ceil ≡ low f ceil = high-some f ceil d ∙ sym (low-some f ceil d) in
         (rw (p, ← e) (t .names-add), rw (q, ← e) (t .bytes-add))
 
     pub count-end : Bytes s → ceil ≡ 0
-        → (names + x ≡ length (distinct (names-in s at size n)))
-        × (bytes + y ≡ length (write-all (λ d. d) (distinct (names-in s at size n))))
+        → (names + x ≡ length (distinct (cut-names c (names-in s at size n))))
+        × (bytes + y ≡ length (write-all (λ d. d) (distinct (cut-names c (names-in s at size n)))))
     count-end bs e =
         let h = high-none f e in (
-          ap (λ z. z + x) p ∙ t .names-add ∙ ap (weight-below s at size n one) h ∙ names-whole s at size n bs,
-          ap (λ z. z + y) q ∙ t .bytes-add ∙ ap (weight-below s at size n length) h ∙ bytes-whole s at size n bs,
+          ap (λ z. z + x) p ∙ t .names-add ∙ ap (weight-below c s at size n one) h ∙ names-whole c s at size n bs,
+          ap (λ z. z + y) q ∙ t .bytes-add ∙ ap (weight-below c s at size n length) h ∙ bytes-whole c s at size n bs,
         )

@@ -6,7 +6,8 @@ use mathlib.Core.Bool.{Bool, true, false}
 use mathlib.Core.List.{List, [], _∷_}
 use lib.ListN.{length, getD}
 use lib.Dec.{ltb}
-use Rattle.vmd_keys.specs.Names.{name-in, names-in, distinct}
+use Rattle.vmd_keys.specs.declared.VmdCut.{VmdCut}
+use Rattle.vmd_keys.specs.Names.{name-in, names-in, cut-name, cut-names, distinct}
 use Rattle.vmd_keys.specs.Heap.{Held}
 use Rattle.vmd_keys.specs.Keys.{key-of, worth, top, spot, key}
 
@@ -20,8 +21,8 @@ high f zero = top
 high f (suc g) = suc (f g)
 
 -- how many bytes the name of record i has
-unfoldable pub name-length : List ℕ → ℕ → ℕ → ℕ → ℕ → ℕ
-name-length s at size n i = length (name-in s (spot at size n i))
+unfoldable pub name-length : VmdCut → List ℕ → ℕ → ℕ → ℕ → ℕ → ℕ
+name-length c s at size n i = length (cut-name c (name-in s (spot at size n i)))
 
 -- the weight of what the first k places hold
 unfoldable pub sum-of : (ℕ → ℕ) → ℕ → List ℕ → ℕ
@@ -107,16 +108,16 @@ pub data Wanted (f : ℕ → ℕ) (floor ceil i : ℕ) : Bool → Type 0 where
   seen : Earlier f i → Wanted f floor ceil i false
 
 -- a weight of the distinct names of a section whose keys lie below a bound
-unfoldable pub weight-below : List ℕ → ℕ → ℕ → ℕ → (List ℕ → ℕ) → ℕ → ℕ
-weight-below s at size n w hi = sum-below name-key w hi (distinct (names-in s at size n))
+unfoldable pub weight-below : VmdCut → List ℕ → ℕ → ℕ → ℕ → (List ℕ → ℕ) → ℕ → ℕ
+weight-below c s at size n w hi = sum-below name-key w hi (distinct (cut-names c (names-in s at size n)))
 
 -- what a pass adds: with the distinct names below its floor, those up to its ceiling
-pub record Tallied (s : List ℕ) (at size n floor ceil names bytes : ℕ) : Type 0 where
+pub record Tallied (c : VmdCut) (s : List ℕ) (at size n floor ceil names bytes : ℕ) : Type 0 where
   pub names-add :
-      weight-below s at size n one (low (key s at size n) floor) + names
-      ≡ weight-below s at size n one (high (key s at size n) ceil)
+      weight-below c s at size n one (low (key c s at size n) floor) + names
+      ≡ weight-below c s at size n one (high (key c s at size n) ceil)
   pub bytes-add :
-      weight-below s at size n length (low (key s at size n) floor) + bytes
-      ≡ weight-below s at size n length (high (key s at size n) ceil)
+      weight-below c s at size n length (low (key c s at size n) floor) + bytes
+      ≡ weight-below c s at size n length (high (key c s at size n) ceil)
   pub names-few : names ≤ 32768
   pub bytes-few : bytes ≤ 491520

@@ -1,11 +1,12 @@
-// The distinct names of a section, counted with no lent memory: passes over its records, each of which finds the names above
+// The distinct names of a section, byte for byte or up to the line feed, counted with no lent memory: passes over its records, each of which finds the names above
 // a floor, as many as fit in a local array of record numbers. Internal: callers see to the lengths.
+use vmd_keys::VmdCut;
 ghost use mathlib.Core.Path.{_≡_};
 ghost use mathlib.Core.Bool.{true, false};
 ghost use Prim.Native.Nat.{_+_, _-_, _*_, _≤_, _<_};
 ghost use lib.ListN.{length};
 ghost use Rattle.vmd_format.specs.Read.{write-all};
-ghost use Rattle.vmd_keys.specs.Names.{names-in, distinct};
+ghost use Rattle.vmd_keys.specs.Names.{names-in, cut-names, distinct};
 ghost use Rattle.vmd_keys.specs.Keys.{Rows, key};
 ghost use Rattle.vmd_keys.specs.Heap.{Ascending};
 ghost use Rattle.vmd_count.specs.Held.{low, high, name-length, sum-of, Holds, Firsts, Fresh, Wanted, Tallied, step-if};
@@ -28,14 +29,23 @@ const PLACES: usize = 32768;
 const KEPT: usize = 16384;
 
 // Whether the name of x is not that of the last of the j places kept.
-fn is_fresh(a: &[u32], j: usize, x: u32, s: &[u8], at: usize, size: usize, n: usize) -> bool
+fn is_fresh(
+    a: &[u32],
+    j: usize,
+    x: u32,
+    s: &[u8],
+    at: usize,
+    size: usize,
+    n: usize,
+    cut: VmdCut,
+) -> bool
     requires { ⌜ (j ≤ length (now a)) × Rows (now s) at size n ⌝ }
-    ensures { λ r. ⌜ Fresh (key (now (s .entry)) at size n) (now (a .entry)) j x r ⌝ }
+    ensures { λ r. ⌜ Fresh (key cut (now (s .entry)) at size n) (now (a .entry)) j x r ⌝ }
 {
     if j == 0 {
         return true;
     }
-    !vmd_keys::same_name(s, at, size, n, a[j - 1], x)
+    !vmd_keys::same_name(s, at, size, n, a[j - 1], x, cut)
 }
 
 // j, or the next place.
@@ -50,15 +60,23 @@ pub fn next_if(j: usize, on: bool) -> usize
 }
 
 // Keeps the first place of each run of equal names among the first m, and returns how many.
-fn keep_firsts(a: &mut [u32], m: usize, s: &[u8], at: usize, size: usize, n: usize) -> usize
-    requires { ⌜ (m ≤ length (now a)) × Rows (now s) at size n × Ascending (key (now s) at size n) m (now a) ⌝ }
-    ensures { λ r. ⌜ Firsts (key (now (s .entry)) at size n) m (now (a .entry)) r (now (a .exit)) ⌝ }
+fn keep_firsts(
+    a: &mut [u32],
+    m: usize,
+    s: &[u8],
+    at: usize,
+    size: usize,
+    n: usize,
+    cut: VmdCut,
+) -> usize
+    requires { ⌜ (m ≤ length (now a)) × Rows (now s) at size n × Ascending (key cut (now s) at size n) m (now a) ⌝ }
+    ensures { λ r. ⌜ Firsts (key cut (now (s .entry)) at size n) m (now (a .entry)) r (now (a .exit)) ⌝ }
 {
     let mut j = 0;
     let mut k = 0;
     while k < m {
         let x = a[k];
-        let on = is_fresh(a, j, x, s, at, size, n);
+        let on = is_fresh(a, j, x, s, at, size, n, cut);
         a[j] = x;
         j = next_if(j, on);
         k += 1;
@@ -77,12 +95,13 @@ fn squeeze(
     floor: usize,
     i: usize,
     ceil: usize,
+    cut: VmdCut,
 ) -> Held
-    requires { ⌜ (32768 ≤ length (now a)) × Rows (now s) at size n × (i ≤ n) × (n ≤ 4294967295) × Holds (key (now s) at size n) floor ceil i 32768 (now a) ⌝ }
-    ensures { λ r. ⌜ Holds (key (now (s .entry)) at size n) floor (r .ceil) i (r .m) (now (a .exit)) × (r .m ≤ 16384) ⌝ }
+    requires { ⌜ (32768 ≤ length (now a)) × Rows (now s) at size n × (i ≤ n) × (n ≤ 4294967295) × Holds (key cut (now s) at size n) floor ceil i 32768 (now a) ⌝ }
+    ensures { λ r. ⌜ Holds (key cut (now (s .entry)) at size n) floor (r .ceil) i (r .m) (now (a .exit)) × (r .m ≤ 16384) ⌝ }
 {
-    vmd_keys::sort_records(a, PLACES, s, at, size, n);
-    let k = keep_firsts(a, PLACES, s, at, size, n);
+    vmd_keys::sort_records(a, PLACES, s, at, size, n, cut);
+    let k = keep_firsts(a, PLACES, s, at, size, n, cut);
     if k > KEPT {
         let last = a[KEPT - 1] as usize;
         return Held {
@@ -94,25 +113,25 @@ fn squeeze(
 }
 
 // Whether a record's name lies above the floor: a record's number and 1, or 0 for none.
-fn is_above(s: &[u8], at: usize, size: usize, n: usize, floor: usize, x: usize) -> bool
+fn is_above(s: &[u8], at: usize, size: usize, n: usize, floor: usize, x: usize, cut: VmdCut) -> bool
     requires { ⌜ Rows (now s) at size n × (n ≤ 4294967295) × (x < n) × (floor ≤ n) ⌝ }
-    ensures { λ r. ⌜ (r ≡ true → low (key (now (s .entry)) at size n) floor ≤ key (now (s .entry)) at size n x) × (r ≡ false → key (now (s .entry)) at size n x < low (key (now (s .entry)) at size n) floor) ⌝ }
+    ensures { λ r. ⌜ (r ≡ true → low (key cut (now (s .entry)) at size n) floor ≤ key cut (now (s .entry)) at size n x) × (r ≡ false → key cut (now (s .entry)) at size n x < low (key cut (now (s .entry)) at size n) floor) ⌝ }
 {
     if floor == 0 {
         return true;
     }
-    vmd_keys::name_before(s, at, size, n, (floor - 1) as u32, x as u32)
+    vmd_keys::name_before(s, at, size, n, (floor - 1) as u32, x as u32, cut)
 }
 
 // Whether a record's name lies below the ceiling.
-fn is_below(s: &[u8], at: usize, size: usize, n: usize, ceil: usize, x: usize) -> bool
+fn is_below(s: &[u8], at: usize, size: usize, n: usize, ceil: usize, x: usize, cut: VmdCut) -> bool
     requires { ⌜ Rows (now s) at size n × (n ≤ 4294967295) × (x < n) × (ceil ≤ n) ⌝ }
-    ensures { λ r. ⌜ (r ≡ true → key (now (s .entry)) at size n x < high (key (now (s .entry)) at size n) ceil) × (r ≡ false → ¬ (ceil ≡ 0) × (key (now (s .entry)) at size n (ceil - 1) ≤ key (now (s .entry)) at size n x)) ⌝ }
+    ensures { λ r. ⌜ (r ≡ true → key cut (now (s .entry)) at size n x < high (key cut (now (s .entry)) at size n) ceil) × (r ≡ false → ¬ (ceil ≡ 0) × (key cut (now (s .entry)) at size n (ceil - 1) ≤ key cut (now (s .entry)) at size n x)) ⌝ }
 {
     if ceil == 0 {
         return true;
     }
-    vmd_keys::name_before(s, at, size, n, x as u32, (ceil - 1) as u32)
+    vmd_keys::name_before(s, at, size, n, x as u32, (ceil - 1) as u32, cut)
 }
 
 // Whether a record's name lies above the floor and below the ceiling, and is not known to have come earlier.
@@ -125,17 +144,18 @@ fn is_wanted(
     floor: usize,
     ceil: usize,
     i: usize,
+    cut: VmdCut,
 ) -> bool
     requires { ⌜ (16385 ≤ length (now cache)) × Rows (now s) at size n × (n ≤ 4294967295) × (i < n) × (floor ≤ n) × (ceil ≤ n) ⌝ }
-    ensures { λ r. ⌜ Wanted (key (now (s .entry)) at size n) floor ceil i r ⌝ }
+    ensures { λ r. ⌜ Wanted (key cut (now (s .entry)) at size n) floor ceil i r ⌝ }
 {
-    if !is_above(s, at, size, n, floor, i) {
+    if !is_above(s, at, size, n, floor, i, cut) {
         return false;
     }
-    if !is_below(s, at, size, n, ceil, i) {
+    if !is_below(s, at, size, n, ceil, i, cut) {
         return false;
     }
-    vmd_keys::earlier_record(cache, s, at, size, n, i) == i
+    vmd_keys::earlier_record(cache, s, at, size, n, i, cut) == i
 }
 
 // One record more.
@@ -150,11 +170,12 @@ fn offer(
     i: usize,
     m: usize,
     ceil: usize,
+    cut: VmdCut,
 ) -> Held
-    requires { ⌜ (32768 ≤ length (now a)) × (16385 ≤ length (now cache)) × Rows (now s) at size n × (n ≤ 4294967295) × (floor ≤ n) × (i < n) × (m < 32768) × Holds (key (now s) at size n) floor ceil i m (now a) ⌝ }
-    ensures { λ r. ⌜ Holds (key (now (s .entry)) at size n) floor (r .ceil) (i + 1) (r .m) (now (a .exit)) × (r .m < 32768) ⌝ }
+    requires { ⌜ (32768 ≤ length (now a)) × (16385 ≤ length (now cache)) × Rows (now s) at size n × (n ≤ 4294967295) × (floor ≤ n) × (i < n) × (m < 32768) × Holds (key cut (now s) at size n) floor ceil i m (now a) ⌝ }
+    ensures { λ r. ⌜ Holds (key cut (now (s .entry)) at size n) floor (r .ceil) (i + 1) (r .m) (now (a .exit)) × (r .m < 32768) ⌝ }
 {
-    if !is_wanted(cache, s, at, size, n, floor, ceil, i) {
+    if !is_wanted(cache, s, at, size, n, floor, ceil, i, cut) {
         return Held { m, ceil };
     }
     a[m] = i as u32;
@@ -162,7 +183,7 @@ fn offer(
     if k < PLACES {
         return Held { m: k, ceil };
     }
-    squeeze(a, s, at, size, n, floor, i + 1, ceil)
+    squeeze(a, s, at, size, n, floor, i + 1, ceil, cut)
 }
 
 // The names above the floor and, if there are too many, not above the ceiling that it finds.
@@ -174,15 +195,16 @@ fn pass(
     size: usize,
     n: usize,
     floor: usize,
+    cut: VmdCut,
 ) -> Held
     requires { ⌜ (32768 ≤ length (now a)) × (16385 ≤ length (now cache)) × Rows (now s) at size n × (n ≤ 4294967295) × (floor ≤ n) ⌝ }
-    ensures { λ r. ⌜ Holds (key (now (s .entry)) at size n) floor (r .ceil) n (r .m) (now (a .exit)) × (r .m < 32768) ⌝ }
+    ensures { λ r. ⌜ Holds (key cut (now (s .entry)) at size n) floor (r .ceil) n (r .m) (now (a .exit)) × (r .m < 32768) ⌝ }
 {
     let mut i = 0;
     let mut m = 0;
     let mut ceil = 0;
     while i < n {
-        let held = offer(a, cache, s, at, size, n, floor, i, m, ceil);
+        let held = offer(a, cache, s, at, size, n, floor, i, m, ceil, cut);
         m = held.m;
         ceil = held.ceil;
         i += 1;
@@ -191,14 +213,14 @@ fn pass(
 }
 
 // The bytes of the names that the first k places hold, added up.
-fn weigh(a: &[u32], k: usize, s: &[u8], at: usize, size: usize, n: usize) -> u64
+fn weigh(a: &[u32], k: usize, s: &[u8], at: usize, size: usize, n: usize, cut: VmdCut) -> u64
     requires { ⌜ (k ≤ length (now a)) × (k ≤ 32768) × Rows (now s) at size n ⌝ }
-    ensures { λ r. ⌜ (r ≡ sum-of (name-length (now (s .entry)) at size n) k (now (a .entry))) × (r ≤ 15 * k) ⌝ }
+    ensures { λ r. ⌜ (r ≡ sum-of (name-length cut (now (s .entry)) at size n) k (now (a .entry))) × (r ≤ 15 * k) ⌝ }
 {
     let mut sum: u64 = 0;
     let mut i = 0;
     while i < k {
-        sum += vmd_keys::name_size(s, at, size, n, a[i]);
+        sum += vmd_keys::name_size(s, at, size, n, a[i], cut);
         i += 1;
     }
     sum
@@ -214,13 +236,14 @@ fn tally(
     n: usize,
     floor: usize,
     ceil: usize,
+    cut: VmdCut,
 ) -> VmdNames
-    requires { ⌜ (m ≤ 32768) × (m ≤ length (now a)) × Rows (now s) at size n × Holds (key (now s) at size n) floor ceil n m (now a) ⌝ }
-    ensures { λ r. ⌜ Tallied (now (s .entry)) at size n floor ceil (r .names) (r .bytes) ⌝ }
+    requires { ⌜ (m ≤ 32768) × (m ≤ length (now a)) × Rows (now s) at size n × Holds (key cut (now s) at size n) floor ceil n m (now a) ⌝ }
+    ensures { λ r. ⌜ Tallied cut (now (s .entry)) at size n floor ceil (r .names) (r .bytes) ⌝ }
 {
-    vmd_keys::sort_records(a, m, s, at, size, n);
-    let k = keep_firsts(a, m, s, at, size, n);
-    let bytes = weigh(a, k, s, at, size, n);
+    vmd_keys::sort_records(a, m, s, at, size, n, cut);
+    let k = keep_firsts(a, m, s, at, size, n, cut);
+    let bytes = weigh(a, k, s, at, size, n, cut);
     VmdNames {
         names: k as u64,
         bytes,
@@ -228,17 +251,25 @@ fn tally(
 }
 
 // Pass after pass, each from the ceiling of the one before.
-fn count(a: &mut [u32], cache: &mut [u32], s: &[u8], at: usize, size: usize, n: usize) -> VmdNames
+fn count(
+    a: &mut [u32],
+    cache: &mut [u32],
+    s: &[u8],
+    at: usize,
+    size: usize,
+    n: usize,
+    cut: VmdCut,
+) -> VmdNames
     requires { ⌜ (32768 ≤ length (now a)) × (16385 ≤ length (now cache)) × Rows (now s) at size n × (n ≤ 4294967295) ⌝ }
-    ensures { λ r. ⌜ (r .names ≡ length (distinct (names-in (now (s .entry)) at size n))) × (r .bytes ≡ length (write-all (λ d. d) (distinct (names-in (now (s .entry)) at size n)))) ⌝ }
+    ensures { λ r. ⌜ (r .names ≡ length (distinct (cut-names cut (names-in (now (s .entry)) at size n)))) × (r .bytes ≡ length (write-all (λ d. d) (distinct (cut-names cut (names-in (now (s .entry)) at size n))))) ⌝ }
 {
     let mut names: u64 = 0;
     let mut bytes: u64 = 0;
     let mut floor = 0;
     loop {
-        let held = pass(a, cache, s, at, size, n, floor);
+        let held = pass(a, cache, s, at, size, n, floor, cut);
         let ceil = held.ceil;
-        let found = tally(a, held.m, s, at, size, n, floor, ceil);
+        let found = tally(a, held.m, s, at, size, n, floor, ceil, cut);
         names += found.names;
         bytes += found.bytes;
         if ceil == 0 {
@@ -248,15 +279,16 @@ fn count(a: &mut [u32], cache: &mut [u32], s: &[u8], at: usize, size: usize, n: 
     }
 }
 
-// How many distinct names the n records of a size from a place on have, and how many bytes these names have together.
-pub fn count_names(s: &[u8], at: usize, size: usize, n: usize) -> VmdNames
+// How many distinct names the n records of a size from a place on have, as names are told apart, and how many bytes these names
+// have together.
+pub fn count_names(s: &[u8], at: usize, size: usize, n: usize, cut: VmdCut) -> VmdNames
     requires { ⌜ (at + size * n ≤ length (now s)) × (16 ≤ size) × (n ≤ 4294967295) ⌝ }
-    ensures { λ r. ⌜ (r .names ≡ length (distinct (names-in (now (s .entry)) at size n))) × (r .bytes ≡ length (write-all (λ d. d) (distinct (names-in (now (s .entry)) at size n)))) ⌝ }
+    ensures { λ r. ⌜ (r .names ≡ length (distinct (cut-names cut (names-in (now (s .entry)) at size n)))) × (r .bytes ≡ length (write-all (λ d. d) (distinct (cut-names cut (names-in (now (s .entry)) at size n))))) ⌝ }
 {
     if n == 0 {
         return VmdNames { names: 0, bytes: 0 };
     }
     let mut a = [0u32; PLACES];
     let mut cache = [0u32; vmd_keys::CACHE_SIZE];
-    count(&mut a, &mut cache, s, at, size, n)
+    count(&mut a, &mut cache, s, at, size, n, cut)
 }

@@ -1,12 +1,15 @@
 -- The names of a section's records and of a take's, and the distinct ones of some names: 02 a), "distinct raw names in order of
--- first appearance"; 02 b) counts them. Definitions only.
+-- first appearance"; what tells the track of a name, 02 k), which 02 b) counts and 02 g) tidies by. Definitions only.
 use Prim.Native.Nat.{ℕ, _+_, _*_}
 use mathlib.Core.Bool.{Bool, true, false, not}
 use mathlib.Core.List.{List, [], _∷_, map}
+use lib.Dec.{eqb}
 use lib.ListN.{take, drop}
 use Rattle.vmd_format.specs.Bytes.{before-zero}
 use Rattle.vmd_format.specs.Take.{Take, same}
 use Rattle.vmd_format.specs.Parts.{upto}
+use Rattle.vmd_keys.specs.declared.VmdCut.{VmdCut}
+use Rattle.vmd_keys.specs.declared.VmdCut.the-variants as cut
 
 -- the name of the bone or morph at a place: a field of 15 bytes up to its first zero
 unfoldable pub name-in : List ℕ → ℕ → List ℕ
@@ -22,6 +25,36 @@ bone-names-of t = map (λ b. b .name) (t .bones)
 
 unfoldable pub morph-names-of : Take → List (List ℕ)
 morph-names-of t = map (λ m. m .name) (t .morphs)
+
+-- 02 k), "Two names now belong to one track when they agree up to the first byte 0x0A, as `vmd_registration_name` cuts them":
+-- a name up to its first line feed, which tells its track
+unfoldable pub registered-if : Bool → ℕ → List ℕ → List ℕ
+registered-if true b n = []
+registered-if false b n = b ∷ n
+
+unfoldable pub registration-name : List ℕ → List ℕ
+registration-name [] = []
+registration-name (b ∷ n) = registered-if (eqb b 10) b (registration-name n)
+
+-- names as they are told apart: byte for byte, or by their tracks
+abbrev pub cut-name : VmdCut → List ℕ → List ℕ
+cut-name cut.Whole n = n
+cut-name cut.LineFeed n = registration-name n
+
+abbrev pub cut-names : VmdCut → List (List ℕ) → List (List ℕ)
+cut-names cut.Whole l = l
+cut-names cut.LineFeed l = map registration-name l
+
+-- what tells the track of the bone or morph at a place
+abbrev pub track-in : List ℕ → ℕ → List ℕ
+track-in s at = registration-name (name-in s at)
+
+-- the two ways, for contracts
+abbrev pub whole : VmdCut
+whole = cut.Whole
+
+abbrev pub to-line-feed : VmdCut
+to-line-feed = cut.LineFeed
 
 -- those that pass a test, in their order
 unfoldable pub keep-if : {A : Type 0} → Bool → A → List A → List A

@@ -2,7 +2,7 @@
 use Prim.Native.Nat.{ℕ, _+_, _-_, _≤_}
 use mathlib.Core.Path.{_≡_, refl, sym, ap, _∙_}
 use mathlib.Core.Bool.{Bool, true, false}
-use mathlib.Core.List.{List}
+use mathlib.Core.List.{List, map}
 use native.Mathlib.Omega.{arith}
 use borrow.Author.Tests.{leb-true, leb-false, le-leb, lt-leb}
 use lib.ListN.{length}
@@ -16,7 +16,7 @@ use Rattle.vmd_laws.specs.Places.{scan-file}
 use Rattle.vmd_laws.specs.PlacesLaws.{section-in}
 use Rattle.vmd_laws.specs.ScanLaws.{file-in}
 use Rattle.vmd_laws.specs.ExportLaws.{take-in, take-by-places, Scanned, scan-counts}
-use Rattle.vmd_keys.specs.Names.{names-in, bone-names-of, morph-names-of, distinct}
+use Rattle.vmd_keys.specs.Names.{names-in, bone-names-of, morph-names-of, registration-name, distinct}
 use Rattle.vmd_keys.specs.NameLaws.{bone-names, morph-names}
 use Rattle.vmd_season.specs.Season.{SectionFigures, Season, TakeFigures, figures-of, records-of, largest-figure, in-64-bits, take-fits, with-count, with-take, with-refused, taken-if, with-answer, with-file}
 
@@ -81,8 +81,8 @@ module _ (s : List ℕ) (x : Scan) where
   morph-names-are = morph-names s (x .morphs .place) (x .morphs .count)
 
   pub figures-found : Scanned s x → {bn mn : ℕ}
-      → bn ≡ length (distinct (names-in s (x .bones .place) 111 (x .bones .count)))
-      → mn ≡ length (distinct (names-in s (x .morphs .place) 23 (x .morphs .count)))
+      → bn ≡ length (distinct (map registration-name (names-in s (x .bones .place) 111 (x .bones .count))))
+      → mn ≡ length (distinct (map registration-name (names-in s (x .morphs .place) 23 (x .morphs .count))))
       → record {
         bones = x .bones .count;
         morphs = x .morphs .count;
@@ -96,8 +96,8 @@ module _ (s : List ℕ) (x : Scan) where
   unfolding figures-of
   figures-found h p q =
       let c = scan-counts s x h in
-      let b = p ∙ sym (ap (λ l. length (distinct l)) bone-names-are) in
-      let m = q ∙ sym (ap (λ l. length (distinct l)) morph-names-are) in
+      let b = p ∙ sym (ap (λ l. length (distinct (map registration-name l))) bone-names-are) in
+      let m = q ∙ sym (ap (λ l. length (distinct (map registration-name l))) morph-names-are) in
       λ i. record {
         bones = sym (c .bones) i;
         morphs = sym (c .morphs) i;

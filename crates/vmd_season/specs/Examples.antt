@@ -8,14 +8,14 @@ use lib.ListN.{getD, replicate}
 use lib.Dec.{T, eqb}
 use Rattle.vmd_format.specs.Read.{lenient}
 use Rattle.vmd_format.specs.Computed.{computed, text, older-text, start, fours, u0, u1, bone-bytes, morph-bytes, camera-bytes, light-bytes, shadow-bytes, ik-bytes, morph-said, light-said, shadow-said, ik-said, every}
-use Rattle.vmd_keys.specs.Names.{bone-names-of, morph-names-of, keep-if, select, distinct}
+use Rattle.vmd_keys.specs.Names.{bone-names-of, morph-names-of, registered-if, registration-name, keep-if, select, distinct}
 use Rattle.vmd_season.specs.Season.{SectionFigures, Season, no-section-figures, no-takes, TakeFigures, figures-of, records-of, largest-figure, totals-fit, take-fits, with-count, with-take, with-refused, taken-if, with-answer, with-file, season-from, season, mean-if, mean}
 use Rattle.vmd_season.specs.Differ.{names, names-and-interpolation, SameName, SameRecords, SameFrames, SameSections, all-stretches, DifferOnly, DifferEach, bone-without, camera-without, without-interpolation}
 use Rattle.vmd_season.specs.DifferLaws.{name-self, differ-self}
 
 -- unfolding this and `computed` unfolds the definitions of the figures
 unfoldable figures-computed : Unit {0}
-unfolding bone-names-of morph-names-of keep-if select distinct no-section-figures no-takes figures-of records-of largest-figure totals-fit take-fits with-count with-take with-refused taken-if with-answer with-file season-from season mean-if mean
+unfolding bone-names-of morph-names-of registered-if registration-name keep-if select distinct no-section-figures no-takes figures-of records-of largest-figure totals-fit take-fits with-count with-take with-refused taken-if with-answer with-file season-from season mean-if mean
 figures-computed = tt
 
 -- ---- a list of three files
@@ -52,6 +52,19 @@ pub season-told :
     }
 unfolding computed figures-computed
 season-told = refl
+
+-- 02 k): bones "A", "A" with two remarks, none and a line feed alone, of two tracks; morphs "A" and "A", a CR and "x", of two
+abbrev remarks : List ℕ
+remarks =
+    let bone : List ℕ → List ℕ = λ n. n ++ replicate 96 1 in
+    let morph : List ℕ → List ℕ = λ n. n ++ replicate 8 1 in
+    start ++ fours (5 ∷ []) ++ bone (65 ∷ replicate 14 0) ++ bone (65 ∷ 10 ∷ 120 ∷ replicate 12 0) ++ bone (65 ∷ 10 ∷ replicate 13 121)
+    ++ bone (0 ∷ 10 ∷ replicate 13 0) ++ bone (10 ∷ replicate 14 0)
+    ++ fours (2 ∷ []) ++ morph (65 ∷ replicate 14 0) ++ morph (65 ∷ 13 ∷ 120 ∷ replicate 12 0)
+
+pub remarks-told : (season lenient (remarks ∷ []) .bone-names ≡ 2) × (season lenient (remarks ∷ []) .morph-names ≡ 2)
+unfolding computed figures-computed
+remarks-told = (refl, refl)
 
 -- "No takes gives zeros throughout", and with none accepted all is 0 but the number of refused takes
 abbrev zeros : ℕ → Season

@@ -2,7 +2,7 @@
 use Prim.Native.Nat.{ℕ, suc, _+_, _≤_, min, max}
 use mathlib.Core.Path.{_≡_, refl, ap, ap₂, sym, _∙_}
 use mathlib.Core.Bool.{true}
-use mathlib.Core.List.{List, [], _∷_, _++_, append-nil, append-assoc}
+use mathlib.Core.List.{List, [], _∷_, _++_, map, append-nil, append-assoc}
 use native.Mathlib.Omega.{arith}
 use borrow.Author.Tests.{ne-eqb}
 use lib.ListN.{length, length-append, length-map}
@@ -11,7 +11,7 @@ use Rattle.vmd_format.specs.Answer.{Answer, declined, given}
 use Rattle.vmd_format.specs.Read.{Manner}
 use Rattle.vmd_laws.specs.ReadLaws.{All, all-append}
 use Rattle.vmd_format.specs.Take.{Take, read-take}
-use Rattle.vmd_keys.specs.Names.{bone-names-of, morph-names-of}
+use Rattle.vmd_keys.specs.Names.{bone-names-of, morph-names-of, registration-name}
 use Rattle.vmd_count.specs.DistinctLaws.{distinct-short}
 use Rattle.vmd_season.specs.Season.{no-section-figures, no-takes, TakeFigures, figures-of, records-of, largest-figure, take-fits, with-count, with-take, with-refused, taken-if, with-answer, with-file, season-from, season}
 use Rattle.vmd_season.specs.Fitting.{says-fits}
@@ -85,8 +85,8 @@ record Named (f : TakeFigures) : Type 0 where
 figures-named : (t : Take) → Named (figures-of t)
 unfolding figures-of bone-names-of morph-names-of
 figures-named t = record {
-  bones = omega (arith, distinct-short (bone-names-of t), length-map (t .bones) (λ b. b .name));
-  morphs = omega (arith, distinct-short (morph-names-of t), length-map (t .morphs) (λ m. m .name));
+  bones = omega (arith, distinct-short (map registration-name (bone-names-of t)), length-map (bone-names-of t) registration-name, length-map (t .bones) (λ b. b .name));
+  morphs = omega (arith, distinct-short (map registration-name (morph-names-of t)), length-map (morph-names-of t) registration-name, length-map (t .morphs) (λ m. m .name));
 }
 
 sum-le : (f : TakeFigures → ℕ) (l : List TakeFigures) → ((a : TakeFigures) → Named a → f a ≤ records-of a) → All Named l

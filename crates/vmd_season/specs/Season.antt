@@ -1,13 +1,13 @@
 -- Figures over takes lent one after another: 02 b), "Season figures". Definitions only.
 use Prim.Native.Nat.{ℕ, _+_, _/_, _%_, min, max}
 use mathlib.Core.Bool.{Bool, true, false, _&&_}
-use mathlib.Core.List.{List, [], _∷_}
+use mathlib.Core.List.{List, [], _∷_, map}
 use lib.ListN.{length}
 use lib.Dec.{leb, eqb}
 use Rattle.vmd_format.specs.Answer.{Answer, declined, given}
 use Rattle.vmd_format.specs.Read.{Manner}
 use Rattle.vmd_format.specs.Take.{Take, read-take}
-use Rattle.vmd_keys.specs.Names.{bone-names-of, morph-names-of, distinct}
+use Rattle.vmd_keys.specs.Names.{bone-names-of, morph-names-of, registration-name, distinct}
 
 -- "per section the total, the smallest and the largest count"
 pub record SectionFigures : Type 0 where
@@ -56,7 +56,8 @@ no-takes = only-refused 0
 
 -- ---- what a take adds
 
--- its counts, and how many distinct names its bones and its morphs have
+-- its counts, and how many distinct names its bones and its morphs have, up to the line feed: 02 k), "Season figures and tidying
+-- follow"
 pub record TakeFigures : Type 0 where
   pub bones : ℕ
   pub morphs : ℕ
@@ -75,8 +76,8 @@ figures-of t = record {
   lights = length (t .lights);
   self-shadows = length (t .self-shadows);
   properties = length (t .properties);
-  bone-names = length (distinct (bone-names-of t));
-  morph-names = length (distinct (morph-names-of t));
+  bone-names = length (distinct (map registration-name (bone-names-of t)));
+  morph-names = length (distinct (map registration-name (morph-names-of t)));
 }
 
 -- the records of all six sections

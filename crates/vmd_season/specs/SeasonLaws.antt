@@ -13,7 +13,7 @@ use Rattle.vmd_format.specs.Answer.{Answer, declined, given, map-answer}
 use Rattle.vmd_format.specs.Read.{Manner}
 use Rattle.vmd_format.specs.Records.{Bone}
 use Rattle.vmd_format.specs.Take.{Take, read-take}
-use Rattle.vmd_keys.specs.Names.{bone-names-of, morph-names-of, distinct}
+use Rattle.vmd_keys.specs.Names.{bone-names-of, morph-names-of, registration-name, distinct}
 use Rattle.vmd_season.specs.Season.{SectionFigures, Season, no-section-figures, only-refused, no-takes, TakeFigures, figures-of, records-of, largest-figure, take-fits, with-count, with-take, with-refused, taken-if, with-answer, with-file, season-from, season, mean-if, mean}
 use Rattle.vmd_season.specs.Differ.{Differing, names, names-and-interpolation, DifferOnly, DifferEach, bone-without, camera-without, without-interpolation}
 use Rattle.vmd_season.specs.DifferLaws.{names-read, interpolations-read}
@@ -106,7 +106,7 @@ unfolding figures-of without-interpolation bone-names-of morph-names-of
 figures-without t =
     let b = length-map (t .bones) bone-without in
     let c = length-map (t .cameras) camera-without in
-    let n = ap (λ l. length (distinct l)) (names-without (t .bones)) in
+    let n = ap (λ l. length (distinct (map registration-name l))) (names-without (t .bones)) in
     λ i. record {
       bones = b i;
       morphs = length (t .morphs);
@@ -115,12 +115,36 @@ figures-without t =
       self-shadows = length (t .self-shadows);
       properties = length (t .properties);
       bone-names = n i;
-      morph-names = length (distinct (map (λ m. m .name) (t .morphs)));
+      morph-names = length (distinct (map registration-name (map (λ m. m .name) (t .morphs))));
     }
 
 -- "Takes that differ only in interpolation bytes .. give equal figures."
 pub same-figures : (t u : Take) → without-interpolation t ≡ without-interpolation u → figures-of t ≡ figures-of u
 same-figures t u e = sym (figures-without t) ∙ ap figures-of e ∙ figures-without u
+
+-- 02 k), "Season figures .. follow": of the names only what tells their tracks counts
+pub figures-follow : (t u : Take) → map registration-name (bone-names-of t) ≡ map registration-name (bone-names-of u)
+    → map registration-name (morph-names-of t) ≡ map registration-name (morph-names-of u) → length (t .cameras) ≡ length (u .cameras)
+    → length (t .lights) ≡ length (u .lights) → length (t .self-shadows) ≡ length (u .self-shadows) → length (t .properties) ≡ length (u .properties)
+    → figures-of t ≡ figures-of u
+unfolding figures-of bone-names-of morph-names-of
+figures-follow t u b m c l s p =
+    let x = as-many (λ b. b .name) (t .bones) (u .bones) b in
+    let y = as-many (λ m. m .name) (t .morphs) (u .morphs) m in
+    λ i. record {
+      bones = x i;
+      morphs = y i;
+      cameras = c i;
+      lights = l i;
+      self-shadows = s i;
+      properties = p i;
+      bone-names = length (distinct (b i));
+      morph-names = length (distinct (m i));
+    }
+  where
+    as-many : {A : Type 0} (nm : A → List ℕ) (l k : List A) → map registration-name (map nm l) ≡ map registration-name (map nm k) → length l ≡ length k
+    as-many nm l k e =
+        omega (arith, ap length e, length-map (map nm l) registration-name, length-map l nm, length-map (map nm k) registration-name, length-map k nm)
 
 answer-without : (z : Season) (x : Answer Take) → with-answer z (map-answer without-interpolation x) ≡ with-answer z x
 unfolding with-answer map-answer

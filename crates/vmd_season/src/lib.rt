@@ -1,15 +1,20 @@
 // Figures over takes lent one after another. A season is a value that goes in and comes back with one take more. Public: the
 // calls of VmdSeason ask nothing of their caller; any numbers in a season mean something.
 use vmd_base::VmdManner;
+use vmd_base::VmdSection;
+use vmd_keys::VmdCut;
 use vmd_records::VmdParsedBoneFrame;
 use vmd_records::VmdParsedMorphFrame;
 use vmd_scan::ScanAnswer;
 use vmd_scan::VmdSections;
 ghost use mathlib.Core.Path.{_≡_};
 ghost use mathlib.Core.Bool.{true, _&&_};
-ghost use Prim.Native.Nat.{_+_, _≤_, min};
+ghost use mathlib.Core.List.{map};
+ghost use Prim.Native.Nat.{_+_, _*_, _≤_, min};
+ghost use lib.ListN.{length};
 ghost use Rattle.vmd_format.specs.Read.{lenient};
 ghost use Rattle.vmd_laws.specs.ExportLaws.{take-in, Scanned};
+ghost use Rattle.vmd_keys.specs.Names.{names-in, registration-name, distinct};
 ghost use Rattle.vmd_scan.specs.Meaning.{scan-is};
 ghost use Rattle.vmd_season.specs.Season.{no-takes, figures-of, records-of, largest-figure, in-64-bits, totals-fit, take-fits, with-count, with-take, with-refused, taken-if, with-file, mean};
 ghost use Rattle.vmd_season.specs.Meaning.{section-is, season-is, take-is, mean-is};
@@ -30,7 +35,7 @@ pub struct VmdSeason {
     pub properties: VmdSectionFigures,
     // Of all six sections: the mean's total.
     pub records: u64,
-    // Each take's distinct names, added up.
+    // Each take's distinct names, up to the line feed, added up.
     pub bone_names: u64,
     pub morph_names: u64,
     // Takes.
@@ -60,22 +65,20 @@ const LARGEST_FIGURE: u64 = 0xffff_ffff_ffff_ffff;
 
 // ---- what a take adds
 
+// How many distinct names the records of a section have, up to the line feed.
+fn count_tracks(file: &[u8], x: VmdSection, size: usize) -> u64
+    requires { ⌜ (x .place + size * x .count ≤ length (now file)) × (16 ≤ size) ⌝ }
+    ensures { λ r. ⌜ r ≡ length (distinct (map registration-name (names-in (now (file .entry)) (x .place) size (x .count)))) ⌝ }
+{
+    vmd_count::count_names(file, x.place, size, x.count as usize, VmdCut::LineFeed).names
+}
+
 fn figures_of(file: &[u8], a: VmdSections) -> VmdTakeFigures
     requires { ⌜ Scanned (now file) (scan-is a) ⌝ }
     ensures { λ r. ⌜ take-is r ≡ figures-of (take-in (now (file .entry)) (scan-is a)) ⌝ }
 {
-    let bones = vmd_count::count_names(
-        file,
-        a.bones.place,
-        VmdParsedBoneFrame::SIZE,
-        a.bones.count as usize,
-    );
-    let morphs = vmd_count::count_names(
-        file,
-        a.morphs.place,
-        VmdParsedMorphFrame::SIZE,
-        a.morphs.count as usize,
-    );
+    let bone_names = count_tracks(file, a.bones, VmdParsedBoneFrame::SIZE);
+    let morph_names = count_tracks(file, a.morphs, VmdParsedMorphFrame::SIZE);
     VmdTakeFigures {
         bones: a.bones.count,
         morphs: a.morphs.count,
@@ -83,8 +86,8 @@ fn figures_of(file: &[u8], a: VmdSections) -> VmdTakeFigures
         lights: a.lights.count,
         self_shadows: a.self_shadows.count,
         properties: a.properties.count,
-        bone_names: bones.names,
-        morph_names: morphs.names,
+        bone_names,
+        morph_names,
     }
 }
 

@@ -4,6 +4,7 @@ use vmd_base::VmdManner;
 use vmd_base::VmdRefusal;
 use vmd_base::VmdSection;
 use vmd_count::VmdNames;
+use vmd_keys::VmdCut;
 use vmd_records::VmdKind;
 use vmd_records::VmdParsedBoneFrame;
 use vmd_records::VmdParsedCameraFrame;
@@ -80,7 +81,7 @@ fn table_fits(
     if also_fits(easy, most, LARGEST_TABLE) {
         return true;
     }
-    let table = vmd_count::count_names(file, section.place, record_size, n);
+    let table = vmd_count::count_names(file, section.place, record_size, n, VmdCut::Whole);
     let size = table.bytes as usize;
     let in_bytes = also_fits(size <= LARGEST_TABLE, size, bytes);
     also_fits(in_bytes, table.names as usize, ends)
@@ -480,12 +481,14 @@ pub fn split_file_sizes(file: &[u8], manner: VmdManner) -> VmdSplit
                 a.bones.place,
                 BONE_SIZE,
                 a.bones.count as usize,
+                VmdCut::Whole,
             );
             let morphs = vmd_count::count_names(
                 file,
                 a.morphs.place,
                 MORPH_SIZE,
                 a.morphs.count as usize,
+                VmdCut::Whole,
             );
             let one = bones.bytes as usize <= LARGEST_TABLE;
             if also_fits(one, morphs.bytes as usize, LARGEST_TABLE) {

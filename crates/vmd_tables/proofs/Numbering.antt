@@ -11,7 +11,7 @@ use Rattle.vmd_format.specs.Read.{write-all}
 use Rattle.vmd_format.specs.Parts.{upto}
 use Rattle.vmd_bytes.specs.Slices.{splice, run}
 use Rattle.vmd_bytes.proofs.Laws.{splice-nil, length-splice, splice-append-at, splice-snoc-at, run-all}
-use Rattle.vmd_keys.specs.Names.{name-in, names-in, distinct}
+use Rattle.vmd_keys.specs.Names.{name-in, names-in, whole, distinct}
 use Rattle.vmd_keys.specs.Keys.{Rows, key}
 use Rattle.vmd_keys.specs.KeyLaws.{spot-in, spot-room, key-tells, key-same}
 use Rattle.vmd_count.specs.DistinctLaws.{Member, distinct-short}
@@ -142,7 +142,7 @@ module _ {s : List ℕ} {at size i names so-far : ℕ} {b₀ b e₀ e x₀ x : L
         ap (λ (t : List ℕ). length t) (g .in-indices)
         ∙ front-length x₀ (name-indices l) (omega (arith, indices-length l, names-count s at size i, r .each))
 
-  module _ {n : ℕ} {leads : List ℕ} (r : Space s at size n b₀ e₀ x₀) (o : First (key s at size n) n leads) (h : i < n) where
+  module _ {n : ℕ} {leads : List ℕ} (r : Space s at size n b₀ e₀ x₀) (o : First (key whole s at size n) n leads) (h : i < n) where
     within : getD leads i 0 ≤ i
     within = o .leads .back i h
 
@@ -150,12 +150,12 @@ module _ {s : List ℕ} {at size i names so-far : ℕ} {b₀ b e₀ e x₀ x : L
     led-new k =
         name-new s at size a i λ (j : ℕ) (u : j < i) q.
         o .first i j h (omega (arith, within)) u
-        (key-same s at size n j i (rw (spot-in at size n j (omega arith), spot-in at size n i h) q))
+        (key-same whole s at size n j i (rw (spot-in at size n j (omega arith), spot-in at size n i h) q))
 
     led-alike : Bytes s → name-in s (at + size * getD leads i 0) ≡ a
     led-alike bs =
         rw (spot-in at size n (getD leads i 0) (omega (arith, within)), spot-in at size n i h)
-        at (key-tells s at size n bs (getD leads i 0) i (o .leads .alike i h))
+        at (key-tells whole s at size n bs (getD leads i 0) i (o .leads .alike i h))
 
     names-more : i ≤ getD leads i 0 → names + 1 ≤ length (distinct (names-in s at size n))
     names-more k =

@@ -1,12 +1,14 @@
-// A name table out of a section: the distinct names of its records in order of first appearance, and each record's index. The
-// index column and a second one of the same length serve as work space. Internal: callers see to the lengths.
+// A name table out of a section: the distinct names of its records, told apart byte for byte, in order of first appearance, and
+// each record's index. The index column and a second one of the same length serve as work space. Internal: callers see to the
+// lengths.
 use vmd_count::VmdNames;
 use vmd_keys::NAME_WIDTH;
+use vmd_keys::VmdCut;
 ghost use mathlib.Core.Path.{_≡_};
 ghost use Prim.Native.Nat.{_+_, _-_, _*_, _≤_, _<_};
 ghost use lib.ListN.{length, getD};
 ghost use Rattle.vmd_bytes.specs.Slices.{splice};
-ghost use Rattle.vmd_keys.specs.Names.{name-in, names-in, distinct};
+ghost use Rattle.vmd_keys.specs.Names.{name-in, names-in, whole, distinct};
 ghost use Rattle.vmd_keys.specs.Keys.{Rows, key, rank};
 ghost use Rattle.vmd_keys.specs.Heap.{Ascending};
 ghost use Rattle.vmd_tables.specs.Tables.{name-table};
@@ -24,13 +26,13 @@ fn list_leaders(
     n: usize,
 ) -> usize
     requires { ⌜ (16385 ≤ length (now cache)) × Rows (now s) at size n × (n ≤ 4294967295) × (n ≤ length (now leads)) × (n ≤ length (now list)) ⌝ }
-    ensures { λ r. ⌜ Leads (key (now (s .entry)) at size n) n (now (leads .exit)) × Lists (key (now (s .entry)) at size n) n r (now (leads .exit)) (now (list .exit)) ⌝ }
+    ensures { λ r. ⌜ Leads (key whole (now (s .entry)) at size n) n (now (leads .exit)) × Lists (key whole (now (s .entry)) at size n) n r (now (leads .exit)) (now (list .exit)) ⌝ }
     ensures { λ _. ⌜ Beyond n (now (leads .entry)) (now (leads .exit)) × Beyond n (now (list .entry)) (now (list .exit)) ⌝ }
 {
     let mut i = 0;
     let mut m = 0;
     while i < n {
-        let e = vmd_keys::earlier_record(cache, s, at, size, n, i);
+        let e = vmd_keys::earlier_record(cache, s, at, size, n, i, VmdCut::Whole);
         leads[i] = e as u32;
         list[m] = i as u32;
         m = vmd_count::next_if(m, e == i);
@@ -51,14 +53,14 @@ fn leader_of(
     n: usize,
 ) -> u32
     requires { ⌜ Rows (now s) at size n × (k < length (now list)) × (getD (now list) (k - 1) 0 < length (now leads)) ⌝ }
-    ensures { λ r. ⌜ Leader (key (now (s .entry)) at size n) (now (leads .entry)) (now (list .entry)) k r ⌝ }
+    ensures { λ r. ⌜ Leader (key whole (now (s .entry)) at size n) (now (leads .entry)) (now (list .entry)) k r ⌝ }
 {
     let x = list[k];
     if k == 0 {
         return x;
     }
     let y = list[k - 1];
-    if vmd_keys::same_name(s, at, size, n, y, x) {
+    if vmd_keys::same_name(s, at, size, n, y, x, VmdCut::Whole) {
         return leads[y as usize];
     }
     x
@@ -74,9 +76,9 @@ fn settle_leaders(
     size: usize,
     n: usize,
 )
-    requires { ⌜ Rows (now s) at size n × (n ≤ 4294967295) × (n ≤ length (now leads)) × (m ≤ length (now list)) × Leads (key (now s) at size n) n (now leads)
-        × Lists (key (now s) at size n) n m (now leads) (now list) × Ascending (rank (now s) at size n) m (now list) ⌝ }
-    ensures { λ _. ⌜ First (key (now (s .entry)) at size n) n (now (leads .exit)) × Beyond n (now (leads .entry)) (now (leads .exit)) ⌝ }
+    requires { ⌜ Rows (now s) at size n × (n ≤ 4294967295) × (n ≤ length (now leads)) × (m ≤ length (now list)) × Leads (key whole (now s) at size n) n (now leads)
+        × Lists (key whole (now s) at size n) n m (now leads) (now list) × Ascending (rank whole (now s) at size n) m (now list) ⌝ }
+    ensures { λ _. ⌜ First (key whole (now (s .entry)) at size n) n (now (leads .exit)) × Beyond n (now (leads .entry)) (now (leads .exit)) ⌝ }
 {
     let mut k = 0;
     while k < m {
@@ -139,7 +141,7 @@ fn number_records(
     size: usize,
     n: usize,
 ) -> VmdNames
-    requires { ⌜ Rows (now s) at size n × (n ≤ 4294967295) × (n ≤ length (now indices)) × (n ≤ length (now leads)) × First (key (now s) at size n) n (now leads) ⌝ }
+    requires { ⌜ Rows (now s) at size n × (n ≤ 4294967295) × (n ≤ length (now indices)) × (n ≤ length (now leads)) × First (key whole (now s) at size n) n (now leads) ⌝ }
     requires { ⌜ (length (distinct (names-in (now s) at size n)) ≤ length (now ends)) × (length (name-table (names-in (now s) at size n) .bytes) ≤ length (now bytes)) × (length (name-table (names-in (now s) at size n) .bytes) ≤ 4294967295) ⌝ }
     ensures { λ r. ⌜ Numbered (now (s .entry)) at size n (r .names) (r .bytes) (now (bytes .entry)) (now (bytes .exit)) (now (ends .entry)) (now (ends .exit)) (now (indices .entry)) (now (indices .exit)) ⌝ }
 {
@@ -174,7 +176,7 @@ pub fn write_name_table(
     }
     let mut cache = [0u32; vmd_keys::CACHE_SIZE];
     let m = list_leaders(work, indices, &mut cache, s, at, size, n);
-    vmd_keys::sort_records(indices, m, s, at, size, n);
+    vmd_keys::sort_records(indices, m, s, at, size, n, VmdCut::Whole);
     settle_leaders(work, indices, m, s, at, size, n);
     number_records(bytes, ends, indices, work, s, at, size, n)
 }

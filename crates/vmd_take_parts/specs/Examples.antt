@@ -8,7 +8,8 @@ use lib.ListN.{replicate}
 use lib.Dec.{T, eqb}
 use Rattle.vmd_format.specs.Answer.{given, and-then}
 use Rattle.vmd_format.specs.Read.{strict, lenient}
-use Rattle.vmd_format.specs.Take.{read-take}
+use Rattle.vmd_format.specs.Records.{Morph}
+use Rattle.vmd_format.specs.Take.{Take, read-take}
 use Rattle.vmd_format.specs.Join.{export-file}
 use Rattle.vmd_format.specs.Parts.{Parts, build}
 use Rattle.vmd_format.specs.Computed.{computed, declines, start, fours, u0, u1, bone-bytes, morph-bytes, camera-bytes, light-bytes, shadow-bytes, ik-bytes, every}
@@ -29,6 +30,25 @@ file m =
     start ++ fours (5 ∷ []) ++ bone-bytes 65 1 3 ++ bone-bytes 66 2 1 ++ bone-bytes 65 7 2 ++ bone-bytes 0 9 4 ++ bone-bytes 66 0 0
     ++ fours (2 ∷ []) ++ morph-bytes 66 8 1 ++ morph-bytes 66 9 2 ++ u1 ++ camera-bytes 5 2 ++ u1 ++ light-bytes 6
     ++ u1 ++ shadow-bytes 7 m ++ u1 ++ fours (9 ∷ []) ++ (2 ∷ []) ++ fours (2 ∷ []) ++ ik-bytes 69 88 3 ++ ik-bytes 70 0 0
+
+-- 02 k), "parts out of a take still tell raw names apart": "A" with the remarks "x" and "y"
+abbrev remarks : Take
+remarks =
+    let morph : List ℕ → Morph = λ n. record { name = n; frame = 1; weight = 2 } in record {
+      model = [];
+      bones = [];
+      morphs = morph (65 ∷ []) ∷ morph (65 ∷ 10 ∷ 120 ∷ []) ∷ morph (65 ∷ 10 ∷ 121 ∷ []) ∷ morph (65 ∷ 10 ∷ 120 ∷ []) ∷ [];
+      cameras = [];
+      lights = [];
+      self-shadows = [];
+      properties = [];
+    }
+
+pub remarks-told :
+    (parts-of-take remarks .morph-names ≡ record { bytes = 65 ∷ 65 ∷ 10 ∷ 120 ∷ 65 ∷ 10 ∷ 121 ∷ []; ends = 1 ∷ 4 ∷ 7 ∷ [] })
+    × (parts-of-take remarks .morph-name-indices ≡ 0 ∷ 1 ∷ 2 ∷ 1 ∷ [])
+unfolding computed parts-computed
+remarks-told = (refl, refl)
 
 -- a value so many times
 abbrev times : ℕ → List ℕ → List ℕ

@@ -1,5 +1,5 @@
 -- A take tidied, computed from its bytes: another number in every record, and the refusals at their limits.
-use Prim.Native.Nat.{ℕ, zero, suc}
+use Prim.Native.Nat.{ℕ, zero, suc, _+_}
 use mathlib.Core.Path.{_≡_, refl}
 use mathlib.Core.Bool.{Bool, not, _&&_}
 use mathlib.Core.List.{List, [], _∷_, _++_}
@@ -8,14 +8,16 @@ use lib.Dec.{T}
 use Rattle.vmd_format.specs.Refusal.{file-ends-early, scratch-too-short, output-too-short, bytes-over, count-oversized}
 use Rattle.vmd_format.specs.Answer.{declined, given, map-answer}
 use Rattle.vmd_format.specs.Read.{strict, lenient}
+use Rattle.vmd_format.specs.Join.{join-files}
 use Rattle.vmd_format.specs.Computed.{computed, declines, bytes-of, text, start, older-text, fours, u0, counting, one-each, camera-bytes, light-bytes, shadow-bytes, ik-bytes}
-use Rattle.vmd_keys.specs.Names.{keep-if, select, distinct}
+use Rattle.vmd_keys.specs.Names.{registered-if, registration-name, keep-if, select, distinct}
 use Rattle.vmd_tracks.specs.Tracks.{put-if, put, put-all, lasts, track, lay, tidy-section, one-track, any, same-slot, dropped}
-use Rattle.vmd_tidy.specs.Tidied.{tidy-by, tidy, Counts, counts-of, dropped-by, largest-section, tidied-file, fitting, tidying, Report, report, cleared, tidied-answer, tidied-output, tidied-scratch, size-answer, size-scratch}
+use Rattle.vmd_tracks.specs.Tidy.{tidy-by, tidy}
+use Rattle.vmd_tidy.specs.Tidied.{Counts, counts-of, dropped-by, largest-section, tidied-file, fitting, tidying, Report, report, cleared, tidied-answer, tidied-output, tidied-scratch, size-answer, size-scratch}
 
 -- unfolding this and `computed` unfolds the definitions of tidying
 unfoldable tidy-computed : Unit {0}
-unfolding keep-if select distinct put-if put put-all lasts track lay tidy-section one-track any same-slot dropped tidy-by tidy counts-of dropped-by largest-section tidied-file fitting tidying report cleared
+unfolding registered-if registration-name keep-if select distinct put-if put put-all lasts track lay tidy-section one-track any same-slot dropped tidy-by tidy counts-of dropped-by largest-section tidied-file fitting tidying report cleared
 tidy-computed = tt
 
 -- a bone and a morph: the letter c, a zero and bytes j, the frame f, and v to tell the record by
@@ -134,13 +136,13 @@ pub frames-told :
 unfolding computed tidy-computed
 frames-told = refl
 
--- names at one frame: 15 letters, the same but for the last, "A" and a line feed, "A", and none; n bytes after the frame
+-- names at one frame: 15 letters, the same but for the last, "A" and a CR, "A", and none; n bytes after the frame
 abbrev named : ℕ → ℕ → List ℕ
 named v n =
     let after : List ℕ = fours (1 ∷ []) ++ replicate n v in
-    counting 65 15 ++ after ++ counting 65 14 ++ (90 ∷ []) ++ after ++ (65 ∷ 10 ∷ replicate 13 0) ++ after ++ (65 ∷ replicate 14 0) ++ after ++ replicate 15 0 ++ after
+    counting 65 15 ++ after ++ counting 65 14 ++ (90 ∷ []) ++ after ++ (65 ∷ 13 ∷ replicate 13 0) ++ after ++ (65 ∷ replicate 14 0) ++ after ++ replicate 15 0 ++ after
 
--- the whole name tells a track; a model name of 20 bytes is kept
+-- names without a line feed tell a track by all their bytes; a model name of 20 bytes is kept
 abbrev by-names : List ℕ → List ℕ → List ℕ
 by-names bones morphs = text ++ replicate 4 0 ++ counting 1 20 ++ bones ++ morphs
 
@@ -158,6 +160,70 @@ pub names-told :
     }))
 unfolding computed tidy-computed
 names-told = (refl, refl)
+
+-- ---- 02 k): names up to the line feed
+
+-- "A", "A" with the remark "x", "A" with the remark "y" that fills the field, none, and a line feed alone
+abbrev plain : List ℕ
+plain = 65 ∷ replicate 14 0
+
+abbrev remark-x : List ℕ
+remark-x = 65 ∷ 10 ∷ 120 ∷ replicate 12 0
+
+abbrev remark-y : List ℕ
+remark-y = 65 ∷ 10 ∷ replicate 13 121
+
+abbrev none : List ℕ
+none = replicate 15 0
+
+abbrev feed-alone : List ℕ
+feed-alone = 10 ∷ replicate 14 0
+
+-- a record of a name and a frame, with v to tell it by
+abbrev row : ℕ → List ℕ → ℕ → ℕ → List ℕ
+row n name f v = name ++ fours (f ∷ []) ++ replicate n v
+
+-- Two tracks, in order of first appearance; of a frame the last record in file order stays, with its own name. The name that
+-- the first appears under need not be among those kept.
+abbrev remarked : ℕ → List ℕ
+remarked n =
+    fours (7 ∷ []) ++ row n plain 3 1 ++ row n feed-alone 5 2 ++ row n remark-x 1 3 ++ row n remark-y 3 4 ++ row n none 4 5
+    ++ row n remark-x 1 6 ++ row n none 5 7
+
+abbrev remarked-tidy : ℕ → List ℕ
+remarked-tidy n = fours (4 ∷ []) ++ row n remark-x 1 6 ++ row n remark-y 3 4 ++ row n none 4 5 ++ row n none 5 7
+
+abbrev with-remarks : List ℕ
+with-remarks = start ++ remarked 92 ++ remarked 4
+
+abbrev with-remarks-tidy : List ℕ
+with-remarks-tidy = start ++ remarked-tidy 92 ++ remarked-tidy 4 ++ replicate 16 0
+
+pub remarks-told :
+    (bytes-of (map-answer tidied-file (tidying lenient with-remarks 7 610)) ≡ with-remarks-tidy)
+    × (map-answer report (tidying lenient with-remarks 7 610)
+    ≡ given (record {
+      bytes = 610;
+      kept = record { bones = 4; morphs = 4; cameras = 0; lights = 0; self-shadows = 0; properties = 0 };
+      dropped = record { bones = 3; morphs = 3; cameras = 0; lights = 0; self-shadows = 0; properties = 0 };
+    }))
+unfolding computed tidy-computed
+remarks-told = (refl, refl)
+
+-- tidied again it is the same, though its first bone is not named as the track's first was
+pub remarks-twice : bytes-of (map-answer tidied-file (tidying lenient with-remarks-tidy 4 610)) ≡ with-remarks-tidy
+unfolding computed tidy-computed
+remarks-twice = refl
+
+-- two takes that spell the remark differently, joined
+abbrev half : List ℕ → ℕ → List ℕ
+half name v = start ++ fours (2 ∷ []) ++ row 92 name 1 v ++ row 92 name 0 (v + 1) ++ replicate 20 0
+
+pub halves-told :
+    bytes-of (map-answer tidied-file (tidying lenient (bytes-of (join-files lenient (half remark-x 1) (half remark-y 3))) 4 296))
+    ≡ start ++ fours (2 ∷ []) ++ row 92 remark-y 0 4 ++ row 92 remark-y 1 3 ++ replicate 20 0
+unfolding computed tidy-computed
+halves-told = refl
 
 -- n records at frames 1 to n
 abbrev rows : List ℕ → List ℕ → ℕ → List ℕ

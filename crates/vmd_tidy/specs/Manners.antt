@@ -10,7 +10,8 @@ use Rattle.vmd_format.specs.Take.{Take}
 use Rattle.vmd_laws.specs.SavingLaws.{Accepted, Reads}
 use Rattle.vmd_laws.specs.MannerLaws.{Stricter, of-reading}
 use Rattle.vmd_laws.specs.RefusalLaws.{Refuses}
-use Rattle.vmd_tidy.specs.Tidied.{tidy, tidied-file, fitting, tidying, report, cleared, tidied-answer, tidied-output, tidied-scratch, longest, size-answer, size-scratch}
+use Rattle.vmd_tracks.specs.Tidy.{tidy}
+use Rattle.vmd_tidy.specs.Tidied.{tidied-file, fitting, tidying, report, cleared, tidied-answer, tidied-output, tidied-scratch, longest, size-answer, size-scratch}
 use Rattle.vmd_tidy.specs.Tidying.{tidied, Enough, tidied-back-in, tidy-refuses}
 
 -- the call: its answer, and what it leaves in output and scratch

@@ -31,7 +31,9 @@ use Rattle.vmd_tables.specs.Leading.{Beyond}
 use Rattle.vmd_sort.specs.Walk.{step, end-by}
 use Rattle.vmd_sort.specs.WalkLaws.{step-frame}
 use Rattle.vmd_tidy_sections.specs.Sections.{tidied-rows, tidied-frames}
-use Rattle.vmd_tidy.specs.Tidied.{tidy, tidy-by, Counts, counts-of, dropped-by, whole-name, largest-section, tidied-file, fitting, tidying, Report, report, cleared}
+use Rattle.vmd_keys.specs.Names.{registration-name}
+use Rattle.vmd_tracks.specs.Tidy.{tidy, tidy-by}
+use Rattle.vmd_tidy.specs.Tidied.{Counts, counts-of, dropped-by, largest-section, tidied-file, fitting, tidying, Report, report, cleared}
 use Rattle.vmd_tidy.specs.TidyLaws.{never-longer, tidy-together}
 use Rattle.vmd_tidy.specs.Stages.{is-given, size-given, largest-count, tidied-at, counts-at, front-bytes, back-bytes, Front, Back, Fewer, Whole}
 
@@ -134,7 +136,7 @@ module _ (s : List ℕ) (x : Scan) (h : Scanned s x) where
   unfolding counts-at counts-of tidy
   kept-fewer =
       let q = scan-counts s x h in
-      let t = tidy-together whole-name (take-in s x) in
+      let t = tidy-together registration-name (take-in s x) in
       let e = tidied-is s x in
       record {
         bones = omega (arith, ap (λ u. length (u .bones)) e, t .bones, q .bones);
@@ -150,13 +152,13 @@ module _ (s : List ℕ) (x : Scan) (h : Scanned s x) where
   kept-is = ap counts-of (tidied-is s x)
 
   -- what is not kept was dropped
-  pub dropped-is : (k d : Counts) → k ≡ counts-at s x → Whole k d x → d ≡ dropped-by whole-name (take-in s x)
+  pub dropped-is : (k d : Counts) → k ≡ counts-at s x → Whole k d x → d ≡ dropped-by registration-name (take-in s x)
   unfolding counts-of tidy
   dropped-is k d e w =
       let q = scan-counts s x h in
-      let t = tidy-together whole-name (take-in s x) in
+      let t = tidy-together registration-name (take-in s x) in
       let u = e ∙ kept-is in
-      counts-path d (dropped-by whole-name (take-in s x))
+      counts-path d (dropped-by registration-name (take-in s x))
       (omega (arith, ap (λ c. c .bones) u, t .bones, q .bones, w .bones))
       (omega (arith, ap (λ c. c .morphs) u, t .morphs, q .morphs, w .morphs))
       (omega (arith, ap (λ c. c .cameras) u, t .cameras, q .cameras, w .cameras))

@@ -1,5 +1,5 @@
--- Tidying a take: 02 g). What is tidied, what the calls answer and what they leave in every lent buffer, in a manner of
--- reading. Definitions only.
+-- Tidying a take: 02 g). What the calls that tidy it answer and what they leave in every lent buffer, in a manner of reading.
+-- Definitions only.
 use Prim.Native.Nat.{ℕ, max}
 use mathlib.Core.List.{List, _++_}
 use lib.Dec.{leb}
@@ -8,29 +8,9 @@ use Rattle.vmd_format.specs.Refusal.{scratch-too-short, output-too-short}
 use Rattle.vmd_format.specs.Answer.{Answer, declined, given, and-then, map-answer, unless, left}
 use Rattle.vmd_format.specs.Read.{Manner}
 use Rattle.vmd_format.specs.Take.{Take, read-take, write-take}
-use Rattle.vmd_tracks.specs.Tracks.{tidy-section, one-track, dropped}
-
--- ---- a take
-
--- "Bone and morph tracks are the records of one name, laid one after another in order of first appearance; each other section
--- is one track. The model name is kept." Two names are of one track where `cut` makes them equal.
-unfoldable pub tidy-by : (List ℕ → List ℕ) → Take → Take
-tidy-by cut t = record {
-  model = t .model;
-  bones = tidy-section (λ b. cut (b .name)) (λ b. b .frame) (t .bones);
-  morphs = tidy-section (λ m. cut (m .name)) (λ m. m .frame) (t .morphs);
-  cameras = tidy-section one-track (λ c. c .frame) (t .cameras);
-  lights = tidy-section one-track (λ l. l .frame) (t .lights);
-  self-shadows = tidy-section one-track (λ s. s .frame) (t .self-shadows);
-  properties = tidy-section one-track (λ p. p .frame) (t .properties);
-}
-
--- the whole name tells a track
-abbrev pub whole-name : List ℕ → List ℕ
-whole-name n = n
-
-unfoldable pub tidy : Take → Take
-tidy t = tidy-by whole-name t
+use Rattle.vmd_keys.specs.Names.{registration-name}
+use Rattle.vmd_tracks.specs.Tracks.{one-track, dropped}
+use Rattle.vmd_tracks.specs.Tidy.{tidy}
 
 -- ---- numbers of records
 
@@ -93,7 +73,7 @@ pub record Report : Type 0 where
   pub dropped : Counts
 
 unfoldable pub report : Take → Report
-report t = record { bytes = length (tidied-file t); kept = counts-of (tidy t); dropped = dropped-by whole-name t }
+report t = record { bytes = length (tidied-file t); kept = counts-of (tidy t); dropped = dropped-by registration-name t }
 
 -- `tidy_vmd_animation`: its answer, the output and the scratch at exit
 abbrev pub tidied-answer : Manner → List ℕ → List ℕ → List ℕ → Answer Report

@@ -15,7 +15,20 @@ use Rattle.vmd_laws.specs.Lengths.{export-length}
 use Rattle.vmd_tracks.specs.Tracks.{tidy-section, one-track}
 use Rattle.vmd_tracks.specs.TrackLaws.{tidy-section-twice, tidy-section-join, all-tidy}
 use Rattle.vmd_tracks.specs.DroppedLaws.{sum-over, made-up, kept-and-dropped}
-use Rattle.vmd_tidy.specs.Tidied.{tidy-by, whole-name, tidy, Counts, counts-of, dropped-by, tidied-file}
+use Rattle.vmd_keys.specs.Names.{registration-name}
+use Rattle.vmd_count.specs.DistinctLaws.{Member}
+use Rattle.vmd_tracks.specs.RankedLaws.{members}
+use Rattle.vmd_tracks.specs.Tidy.{tidy-by, tidy}
+use Rattle.vmd_tidy.specs.Tidied.{Counts, counts-of, dropped-by, tidied-file}
+
+-- each record of the second take is one of the first's, in every field
+pub record AllOf (t u : Take) : Type 0 where
+  pub bones : All (λ b. Member b (t .bones)) (u .bones)
+  pub morphs : All (λ m. Member m (t .morphs)) (u .morphs)
+  pub cameras : All (λ c. Member c (t .cameras)) (u .cameras)
+  pub lights : All (λ l. Member l (t .lights)) (u .lights)
+  pub self-shadows : All (λ s. Member s (t .self-shadows)) (u .self-shadows)
+  pub properties : All (λ p. Member p (t .properties)) (u .properties)
 
 module _ (cut : List ℕ → List ℕ) where
   -- LAW: tidying twice is tidying once
@@ -79,6 +92,21 @@ module _ (cut : List ℕ → List ℕ) where
     properties = kept-and-dropped _ _ (t .properties);
   }
 
+  -- LAW: "A tidied record keeps its full name" (02 k)
+  pub tidy-members : (t : Take) → AllOf t (tidy-by cut t)
+  unfolding tidy-by
+  tidy-members t = record {
+    bones = section-members _ _ (t .bones);
+    morphs = section-members _ _ (t .morphs);
+    cameras = section-members _ _ (t .cameras);
+    lights = section-members _ _ (t .lights);
+    self-shadows = section-members _ _ (t .self-shadows);
+    properties = section-members _ _ (t .properties);
+  }
+    where
+      section-members : {A : Type 0} (key : A → List ℕ) (frame : A → ℕ) (l : List A) → All (λ a. Member a l) (tidy-section key frame l)
+      section-members key frame l = all-tidy key frame (λ a. Member a l) l (members l)
+
 -- ---- a tidied file is never longer than the export
 
 states-sum : (l : List Property) → ik-total l ≡ sum-over (λ p. length (p .ik-states)) l
@@ -102,4 +130,4 @@ never-longer-by cut t =
 -- LAW: an output of the export's length can hold the tidied file
 pub never-longer : (t : Take) → length (tidied-file t) ≤ length (write-take t)
 unfolding tidied-file tidy
-never-longer t = never-longer-by whole-name t
+never-longer t = never-longer-by registration-name t

@@ -24,8 +24,10 @@ use Rattle.vmd_laws.specs.EditionLaws.{take-widened}
 use Rattle.vmd_laws.specs.RefusalLaws.{here, there, reading-numbers, Refuses, among-back, reading-refuses, refuses-more, refuses-then, refuses-unless}
 use Rattle.vmd_export.specs.Demand3.{joined, joined-is}
 use Rattle.vmd_export.specs.Demand3 as saving
-use Rattle.vmd_tidy.specs.Tidied.{tidy, whole-name, counts-of, largest-section, tidied-file, fitting, tidying, report, tidied-answer, tidied-output, tidied-scratch, cleared, longest, size-answer, size-scratch}
-use Rattle.vmd_tidy.specs.TidyLaws.{tidy-twice, tidy-join, tidy-well-formed, tidy-fit, Together, tidy-together, never-longer}
+use Rattle.vmd_keys.specs.Names.{registration-name}
+use Rattle.vmd_tracks.specs.Tidy.{tidy}
+use Rattle.vmd_tidy.specs.Tidied.{counts-of, largest-section, tidied-file, fitting, tidying, report, tidied-answer, tidied-output, tidied-scratch, cleared, longest, size-answer, size-scratch}
+use Rattle.vmd_tidy.specs.TidyLaws.{AllOf, tidy-members, tidy-twice, tidy-join, tidy-well-formed, tidy-fit, Together, tidy-together, never-longer}
 use Rattle.vmd_tidy.specs.Stages.{largest-count}
 use Rattle.vmd_tidy.specs.StageLaws.{largest-is, fitting-over, fitting-given}
 
@@ -46,7 +48,7 @@ max-less h k = omega arith
 largest-less : (t : Take) → largest-section (tidy t) ≤ largest-section t
 unfolding largest-section tidy counts-of
 largest-less t =
-    let k = tidy-together whole-name t in
+    let k = tidy-together registration-name t in
     max-less (omega (arith, k .bones)) (max-less (omega (arith, k .morphs)) (max-less (omega (arith, k .cameras))
     (max-less (omega (arith, k .lights)) (max-less (omega (arith, k .self-shadows)) (omega (arith, k .properties))))))
 
@@ -93,7 +95,7 @@ module _ (m : Manner) where
   -- they are long enough for the tidied take too
   pub enough-again : {t : Take} {scratch out : List ℕ} → Enough t scratch out → Enough (tidy t) scratch out
   enough-again {t} {scratch} {out} n =
-      let e : tidied-file (tidy t) ≡ tidied-file t = (unfold tidied-file tidy in ap write-take (tidy-twice whole-name t)) in
+      let e : tidied-file (tidy t) ≡ tidied-file t = (unfold tidied-file tidy in ap write-take (tidy-twice registration-name t)) in
       record { places = omega (arith, largest-less t, n .places); room = rw e (n .room) }
 
   -- as many places as a ninth of the file's bytes are enough, since a record has at least nine
@@ -115,7 +117,7 @@ module _ (m : Manner) where
   tidied-back-in any {s} {t} scratch out h n = record {
     file = tidied-file t;
     is = tidied-is scratch out h n;
-    accepted = written-accepted any (tidy t) (tidy-well-formed whole-name (well-formed m h));
+    accepted = written-accepted any (tidy t) (tidy-well-formed registration-name (well-formed m h));
   }
 
   pub tidied-back : {s : List ℕ} {t : Take} (scratch out : List ℕ) → Accepted m s t → Enough t scratch out
@@ -124,14 +126,19 @@ module _ (m : Manner) where
 
   back : {s : List ℕ} {t : Take} → Accepted m s t → read-take m (tidied-file t) ≡ given (tidy t)
   unfolding tidied-file tidy
-  back {s} {t} h = take-back m (tidy t) (tidy-well-formed whole-name (well-formed m h))
+  back {s} {t} h = take-back m (tidy t) (tidy-well-formed registration-name (well-formed m h))
+
+  -- 02 k), "A tidied record keeps its full name": what is read back are records of the take, in every field
+  pub tidied-members : (any : Manner) {s : List ℕ} {t : Take} (scratch out : List ℕ) → Accepted m s t → Enough t scratch out
+      → Reads any (tidied m s scratch out) (tidy t) × AllOf t (tidy t)
+  tidied-members any {s} {t} scratch out h n = (tidied-back-in any scratch out h n, (unfold tidy in tidy-members registration-name t))
 
   -- "In the bytes written, tidying twice is tidying once"
   pub tidied-twice : {s : List ℕ} {t : Take} (scratch out scratch′ out′ : List ℕ) → Accepted m s t → Enough t scratch out → Enough (tidy t) scratch′ out′
       → and-then (tidied m s scratch out) (λ f. tidied m f scratch′ out′) ≡ tidied m s scratch out
   unfolding and-then
   tidied-twice {s} {t} scratch out scratch′ out′ h n k =
-      rw (tidied-is scratch out h n) (tidied-reads (tidied-file t) scratch′ out′ (back h) k ∙ (unfold tidied-file tidy in ap (λ u. given (write-take u)) (tidy-twice whole-name t)))
+      rw (tidied-is scratch out h n) (tidied-reads (tidied-file t) scratch′ out′ (back h) k ∙ (unfold tidied-file tidy in ap (λ u. given (write-take u)) (tidy-twice registration-name t)))
 
   -- "and tidying a join, where its counts fit 32 bits, equals tidying the join of the two tidied takes"
   pub tidied-join : {a b : List ℕ} {t u : Take} (ab s₁ o₁ s₂ o₂ s₃ o₃ cd s₄ o₄ : List ℕ) → Accepted m a t → Accepted m b u → Fit t u
@@ -142,21 +149,21 @@ module _ (m : Manner) where
   unfolding and-then
   tidied-join {a} {b} {t} {u} ab s₁ o₁ s₂ o₂ s₃ o₃ cd s₄ o₄ h k f n₁ n₂ n₃ n₄ n₅ n₆ =
       let w = take-back m (join t u) (join-well-formed f (well-formed m h) (well-formed m k)) in
-      let x = take-back m (join (tidy t) (tidy u)) (join-well-formed fit (unfold tidy in tidy-well-formed whole-name (well-formed m h)) (unfold tidy in tidy-well-formed whole-name (well-formed m k))) in
+      let x = take-back m (join (tidy t) (tidy u)) (join-well-formed fit (unfold tidy in tidy-well-formed registration-name (well-formed m h)) (unfold tidy in tidy-well-formed registration-name (well-formed m k))) in
       rw (joined-is m a b ab (h .reads) (k .reads) f n₁, tidied-is s₂ o₂ h n₃, tidied-is s₃ o₃ k n₄, joined-is m (tidied-file t) (tidied-file u) cd (back h) (back k) fit n₅)
       (tidied-reads (write-take (join t u)) s₁ o₁ w n₂ ∙ ap given same ∙ sym (tidied-reads (write-take (join (tidy t) (tidy u))) s₄ o₄ x n₆))
     where
       fit : Fit (tidy t) (tidy u)
-      fit = unfold tidy in tidy-fit whole-name f
+      fit = unfold tidy in tidy-fit registration-name f
 
       same : tidied-file (join t u) ≡ tidied-file (join (tidy t) (tidy u))
-      same = unfold tidied-file tidy in ap write-take (sym (tidy-join whole-name t u))
+      same = unfold tidied-file tidy in ap write-take (sym (tidy-join registration-name t u))
 
   -- "For each section, kept and dropped together make up the records read"
   pub kept-dropped : {s : List ℕ} {t : Take} (scratch out : List ℕ) → Accepted m s t → Enough t scratch out
-      → (tidied-answer m s scratch out ≡ given (report t)) × Together whole-name t (report t .kept) (report t .dropped)
+      → (tidied-answer m s scratch out ≡ given (report t)) × Together registration-name t (report t .kept) (report t .dropped)
   unfolding map-answer report tidy
-  kept-dropped {s} {t} scratch out h n = (rw (tidying-is s scratch out (h .reads) n), tidy-together whole-name t)
+  kept-dropped {s} {t} scratch out h n = (rw (tidying-is s scratch out (h .reads) n), tidy-together registration-name t)
 
   -- "after success these places hold zero and further ones keep their contents"
   pub scratch-cleared : {s : List ℕ} {t : Take} (scratch out : List ℕ) → Accepted m s t → Enough t scratch out

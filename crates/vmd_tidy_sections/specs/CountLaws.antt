@@ -15,9 +15,9 @@ use Rattle.vmd_format.specs.Records.{ik-state}
 use Rattle.vmd_format.specs.Take.{same}
 use Rattle.vmd_format.specs.Opening.{Extent, ik-total}
 use Rattle.vmd_laws.specs.PlacesLaws.{property-in, table-length}
-use Rattle.vmd_keys.specs.Names.{name-in}
+use Rattle.vmd_keys.specs.Names.{track-in, to-line-feed}
 use Rattle.vmd_keys.specs.Keys.{key-of, worth, top}
-use Rattle.vmd_keys.specs.KeyLaws.{pack-first, pack-second, worth-tells, name-good}
+use Rattle.vmd_keys.specs.KeyLaws.{pack-first, pack-second, worth-tells, cut-good}
 use Rattle.vmd_count.specs.DistinctLaws.{same-refl, Names, equal, apart, names}
 use Rattle.vmd_tracks.specs.Tracks.{lasts, tidy-section, same-slot}
 use Rattle.vmd_tracks.specs.TrackLaws.{all-map}
@@ -37,43 +37,43 @@ module _ (s : List ℕ) (bs : Bytes s) where
   abbrev frame-there : ℕ → ℕ
   frame-there p = u32 (drop (p + 15) s)
 
-  both-in : (p : ℕ) → p + 19 ≤ length s → both s p ≡ frame-there p * top + worth (key-of (name-in s p))
+  both-in : (p : ℕ) → p + 19 ≤ length s → both s p ≡ frame-there p * top + worth (key-of (track-in s p))
   unfolding both
   both-in p h = ap₂ (λ (u v : ℕ). u * top + v) (there-in s (p + 15) (omega arith)) (named-in s p (omega arith))
 
-  name-tells : (p q : ℕ) → worth (key-of (name-in s p)) ≡ worth (key-of (name-in s q)) → name-in s p ≡ name-in s q
-  name-tells p q e = worth-tells _ _ (name-good s bs p) (name-good s bs q) e
+  name-tells : (p q : ℕ) → worth (key-of (track-in s p)) ≡ worth (key-of (track-in s q)) → track-in s p ≡ track-in s q
+  name-tells p q e = worth-tells _ _ (cut-good to-line-feed s bs p) (cut-good to-line-feed s bs q) e
 
-  both-tells : (p q : ℕ) → p + 19 ≤ length s → q + 19 ≤ length s → eqb (both s p) (both s q) ≡ same-slot (name-in s) frame-there p q
+  both-tells : (p q : ℕ) → p + 19 ≤ length s → q + 19 ≤ length s → eqb (both s p) (both s q) ≡ same-slot (track-in s) frame-there p q
   unfolding same-slot
-  both-tells p q h k = go (names (name-in s p) (name-in s q)) (ℕ-discrete (frame-there p) (frame-there q))
+  both-tells p q h k = go (names (track-in s p) (track-in s q)) (ℕ-discrete (frame-there p) (frame-there q))
     where
-      small : (r : ℕ) → r + 19 ≤ length s → worth (key-of (name-in s r)) < top
+      small : (r : ℕ) → r + 19 ≤ length s → worth (key-of (track-in s r)) < top
       small r h = rw (named-in s r (omega arith)) at (named-small s r bs)
 
-      parts : both s p ≡ both s q → (frame-there p ≡ frame-there q) × (worth (key-of (name-in s p)) ≡ worth (key-of (name-in s q)))
+      parts : both s p ≡ both s q → (frame-there p ≡ frame-there q) × (worth (key-of (track-in s p)) ≡ worth (key-of (track-in s q)))
       parts e =
           let z = sym (both-in p h) ∙ e ∙ both-in q k in (
-            pack-first top (frame-there p) (worth (key-of (name-in s p))) (frame-there q) (worth (key-of (name-in s q))) (small p h) (small q k) z,
-            pack-second top (frame-there p) (worth (key-of (name-in s p))) (frame-there q) (worth (key-of (name-in s q))) (small p h) (small q k) z,
+            pack-first top (frame-there p) (worth (key-of (track-in s p))) (frame-there q) (worth (key-of (track-in s q))) (small p h) (small q k) z,
+            pack-second top (frame-there p) (worth (key-of (track-in s p))) (frame-there q) (worth (key-of (track-in s q))) (small p h) (small q k) z,
           )
 
-      go : Names (name-in s p) (name-in s q) → Dec (frame-there p ≡ frame-there q)
-          → eqb (both s p) (both s q) ≡ (same (name-in s p) (name-in s q) && eqb (frame-there p) (frame-there q))
+      go : Names (track-in s p) (track-in s q) → Dec (frame-there p ≡ frame-there q)
+          → eqb (both s p) (both s q) ≡ (same (track-in s p) (track-in s q) && eqb (frame-there p) (frame-there q))
       go (equal e x y) (yes d) =
           rw (x, eq-eqb (frame-there p) (frame-there q) d)
           (eq-eqb _ _ (both-in p h ∙ ap₂ (λ (u : ℕ) (v : List ℕ). u * top + worth (key-of v)) d e ∙ sym (both-in q k)))
       go (equal e x y) (no d) = rw (x, ne-eqb (frame-there p) (frame-there q) d) (ne-eqb _ _ (λ z. d (parts z .0)))
       go (apart x y) d = rw x (ne-eqb _ _ (λ z. differ (name-tells p q (parts z .1)) x))
         where
-          differ : name-in s p ≡ name-in s q → same (name-in s p) (name-in s q) ≡ false → ⊥
-          differ e f = let u = same-refl (name-in s p) in let v : same (name-in s p) (name-in s p) ≡ false = rw (← e) at f in let w : _≡_ {A = ℕ} 0 1 = cc in omega arith
+          differ : track-in s p ≡ track-in s q → same (track-in s p) (track-in s q) ≡ false → ⊥
+          differ e f = let u = same-refl (track-in s p) in let v : same (track-in s p) (track-in s p) ≡ false = rw (← e) at f in let w : _≡_ {A = ℕ} 0 1 = cc in omega arith
 
   -- LAW: names and frames
   pub named-count : (w n at : ℕ) → 19 ≤ w → end-by (step s w) n at ≤ length s
-      → length (lasts (both s) (places-by (step s w) n at)) ≡ length (tidy-section (name-in s) frame-there (places-by (step s w) n at))
+      → length (lasts (both s) (places-by (step s w) n at)) ≡ length (tidy-section (track-in s) frame-there (places-by (step s w) n at))
   named-count w n at wide h =
-      kept-by-number (name-in s) frame-there (both s) (λ p. p + 19 ≤ length s) both-tells (places-by (step s w) n at)
+      kept-by-number (track-in s) frame-there (both s) (λ p. p + 19 ≤ length s) both-tells (places-by (step s w) n at)
       (all-map _ _ (places-by (step s w) n at) (λ p (q : step s w p ≤ length s). let e = step-fixed s w p (omega arith) in omega arith)
       (places-lie (step s w) (step-past s w) n at (length s) h))
 

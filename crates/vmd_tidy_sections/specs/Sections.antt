@@ -11,7 +11,7 @@ use Rattle.vmd_laws.specs.PlacesLaws.{frames-in}
 use Rattle.vmd_records.specs.declared.VmdKind.{VmdKind}
 use Rattle.vmd_records.specs.declared.VmdKind.the-variants as kind
 use Rattle.vmd_records.specs.Kinds.{Row, layout, size-of, frame-at}
-use Rattle.vmd_keys.specs.Names.{name-in}
+use Rattle.vmd_keys.specs.Names.{registration-name, track-in}
 use Rattle.vmd_tracks.specs.Tracks.{lasts, tidy-section, one-track}
 use Rattle.vmd_sort.specs.Walk.{step, places-by}
 
@@ -21,8 +21,8 @@ placed K s p = K .encode (K .decode (drop p s))
 
 -- what a record's track is told by, and its frame
 abbrev pub track-of : (k : VmdKind) → Row k → List ℕ
-track-of kind.Bone b = b .name
-track-of kind.Morph m = m .name
+track-of kind.Bone b = registration-name (b .name)
+track-of kind.Morph m = registration-name (m .name)
 track-of kind.Camera c = one-track c
 track-of kind.Light l = one-track l
 track-of kind.SelfShadow s = one-track s
@@ -36,8 +36,8 @@ frame-of kind.SelfShadow s = s .frame
 
 -- the same of the record at a place
 abbrev pub track-at : VmdKind → List ℕ → ℕ → List ℕ
-track-at kind.Bone s p = name-in s p
-track-at kind.Morph s p = name-in s p
+track-at kind.Bone s p = track-in s p
+track-at kind.Morph s p = track-in s p
 track-at kind.Camera s p = one-track p
 track-at kind.Light s p = one-track p
 track-at kind.SelfShadow s p = one-track p

@@ -5,3 +5,5 @@ pub mod Original
 pub mod Ranked
 pub mod RankedLaws
 pub mod MapLaws
+pub mod Tidy
+pub mod Examples

@@ -54,6 +54,11 @@ impl Record {
         name(&self.field)
     }
 
+    /// What of its name tells its track.
+    pub fn key(&self) -> &[u8] {
+        key(self.name())
+    }
+
     pub fn in_file(&self) -> Vec<u8> {
         [&self.field, &self.frame.to_le_bytes()[..], &self.rest].concat()
     }
@@ -66,6 +71,11 @@ impl Record {
 /// The bytes of a field before its first zero.
 pub fn name(field: &[u8]) -> &[u8] {
     field.split(|byte| *byte == 0).next().unwrap()
+}
+
+/// The bytes of a name before its first line feed.
+pub fn key(name: &[u8]) -> &[u8] {
+    name.split(|byte| *byte == b'\n').next().unwrap()
 }
 
 /// Bytes, and others up to a length.
@@ -115,17 +125,23 @@ impl Records {
 
 // ---- at random
 
-/// Few, among them some that differ in one byte, by a line feed, or in length alone.
-pub const NAMES: [&[u8]; 12] = [
+/// Few, among them some that differ in one byte, by a remark after a line feed, by a byte that is none, or in length alone.
+pub const NAMES: [&[u8]; 18] = [
     b"arm",
     b"",
+    b"arm\nleft",
+    b"arm\nright\n",
+    b"\n",
     b"ar",
     b"arm\n",
-    b"arm\nleft",
-    b"\n",
+    b"arm\r",
+    b"arm\x0Bleft",
+    b"\nleft",
     b"fifteen letters",
     b"fifteen letter",
-    b"fifteen letterS",
+    b"fifteen letter\n",
+    b"fifteen \nletter",
+    b"fifteen \n",
     b"\xFF\x80\xFF",
     b"\x8D\xB6\x98r",
     b"arN",

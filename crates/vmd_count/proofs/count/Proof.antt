@@ -13,18 +13,18 @@ use Rattle.vmd_count.proofs.count.Statement.{statement}
 use Rattle.vmd_count.proofs.count.Tie as tie
 
 abbrev Inv-loop : tie.InvT-loop
-Inv-loop a₀ cache₀ s at size n names₀ bytes₀ floor₀ a cache names bytes floor =
+Inv-loop a₀ cache₀ s at size n cut names₀ bytes₀ floor₀ a cache names bytes floor =
     (length a ≡ length a₀) × (length cache ≡ length cache₀) × (floor ≤ n)
-    × (names ≡ weight-below s at size n one (low (key s at size n) floor))
-    × (bytes ≡ weight-below s at size n length (low (key s at size n) floor))
+    × (names ≡ weight-below cut s at size n one (low (key cut s at size n) floor))
+    × (bytes ≡ weight-below cut s at size n length (low (key cut s at size n) floor))
 
 abbrev μ-loop : tie.MeasureT-loop
-μ-loop a₀ cache₀ s at size n names₀ bytes₀ floor₀ a cache names bytes floor = top - low (key s at size n) floor
+μ-loop a₀ cache₀ s at size n cut names₀ bytes₀ floor₀ a cache names bytes floor = top - low (key cut s at size n) floor
 
 loop-holds : tie.Need-loop-holds Inv-loop μ-loop
 loop-holds c =
     let a = c .before .before .before .args in
-    let start = count-start (a .s .now) (a .at) (a .size) (a .n) in
+    let start = count-start (a .cut) (a .s .now) (a .at) (a .size) (a .n) in
     (refl, refl, omega arith, start one, start length)
 
 pass-requires : tie.Need-pass-requires Inv-loop μ-loop
@@ -49,7 +49,7 @@ add-names c =
     omega (
       arith,
       t .tally .ensures .names-few,
-      names-most s (a .at) (a .size) (a .n) (low (key s (a .at) (a .size) (a .n)) (l .loop .floor)),
+      names-most (a .cut) s (a .at) (a .size) (a .n) (low (key (a .cut) s (a .at) (a .size) (a .n)) (l .loop .floor)),
     )
 
 add-bytes : tie.Need-add-bytes Inv-loop μ-loop
@@ -63,7 +63,7 @@ add-bytes c =
     omega (
       arith,
       t .tally .ensures .bytes-few,
-      bytes-most s (a .at) (a .size) (a .n) bs (low (key s (a .at) (a .size) (a .n)) (l .loop .floor)),
+      bytes-most (a .cut) s (a .at) (a .size) (a .n) bs (low (key (a .cut) s (a .at) (a .size) (a .n)) (l .loop .floor)),
     )
 
 same-length : tie.Need-same-length Inv-loop μ-loop
@@ -81,7 +81,7 @@ returns c =
     let a = k .before .before .before .args in
     let s = a .s .now in
     let bs : Bytes s = λ i. omega (arith, k .shared-slice-known .given i) in
-    count-end s (a .at) (a .size) (a .n) (l .floor) _ (l .names) (l .bytes) _ _ (l .inv .3) (l .inv .4) (t .tally .ensures) bs (c .if1 .taken)
+    count-end (a .cut) s (a .at) (a .size) (a .n) (l .floor) _ (l .names) (l .bytes) _ _ (l .inv .3) (l .inv .4) (t .tally .ensures) bs (c .if1 .taken)
 
 loop-less : tie.Need-loop-less Inv-loop μ-loop
 loop-less c =
@@ -91,7 +91,7 @@ loop-less c =
     let a = k .before .before .before .args in
     let s = a .s .now in
     let bs : Bytes s = λ i. omega (arith, k .shared-slice-known .given i) in
-    floor-rises (key s (a .at) (a .size) (a .n)) (l .loop .floor) (key-top s (a .at) (a .size) (a .n) bs) (p .pass .ensures .0 .marked) (c .if1 .left)
+    floor-rises (key (a .cut) s (a .at) (a .size) (a .n)) (l .loop .floor) (key-top (a .cut) s (a .at) (a .size) (a .n) bs) (p .pass .ensures .0 .marked) (c .if1 .left)
 
 loop-again : tie.Need-loop-again Inv-loop μ-loop
 loop-again c =
@@ -101,8 +101,8 @@ loop-again c =
     let l = b .loop in
     let a = b .before .before .before .before .args in
     let s = a .s .now in
-    let e = count-more s (a .at) (a .size) (a .n) (l .floor) _ (l .names) (l .bytes) _ _ (l .inv .3) (l .inv .4) (t .tally .ensures) (c .if1 .left) in
-    (omega arith, omega arith, marked-small (key s (a .at) (a .size) (a .n)) (p .pass .ensures .0 .marked), e .0, e .1)
+    let e = count-more (a .cut) s (a .at) (a .size) (a .n) (l .floor) _ (l .names) (l .bytes) _ _ (l .inv .3) (l .inv .4) (t .tally .ensures) (c .if1 .left) in
+    (omega arith, omega arith, marked-small (key (a .cut) s (a .at) (a .size) (a .n)) (p .pass .ensures .0 .marked), e .0, e .1)
 
 pub count-spec : {M : Type 1} → statement M
 count-spec =

@@ -13,7 +13,7 @@ returns-2 : tie.Need-returns-2
 returns-2 c =
     let i = c .before .before in
     let a = i .before .before .before .args in
-    fresh-later (key (a .s .now) (a .at) (a .size) (a .n)) (a .a .now) (a .j) (a .x) _ (i .if1 .left) (c .same-name .ensures)
+    fresh-later (key (a .cut) (a .s .now) (a .at) (a .size) (a .n)) (a .a .now) (a .j) (a .x) _ (i .if1 .left) (c .same-name .ensures)
 
 pub is-fresh-spec : {M : Type 1} → statement M
 is-fresh-spec = tie.close (tie.spec returns (λ c. search needs) (λ c. search needs) (λ c. search needs) (λ c κs. search needs) returns-2)

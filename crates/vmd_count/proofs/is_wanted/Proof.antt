@@ -27,7 +27,7 @@ returns-3 c =
     let h = g .before .before .before in
     let a = h .args in
     let e = r .earlier-record .ensures in
-    wanted-last (key (a .s .now) (a .at) (a .size) (a .n)) (a .floor) (a .ceil) (a .i) _
+    wanted-last (key (a .cut) (a .s .now) (a .at) (a .size) (a .n)) (a .floor) (a .ceil) (a .i) _
     (g .is-above .ensures .0 (not-false _ (f .if1 .left))) (d .is-below .ensures .0 (not-false _ (b .if2 .left))) (e .0) (e .1)
 
 pub is-wanted-spec : {M : Type 1} → statement M

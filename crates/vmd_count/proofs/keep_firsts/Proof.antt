@@ -9,10 +9,10 @@ use Rattle.vmd_count.proofs.keep_firsts.Statement.{statement}
 use Rattle.vmd_count.proofs.keep_firsts.Tie as tie
 
 abbrev Inv-loop : tie.InvT-loop
-Inv-loop a₀ m s at size n j₀ k₀ a j k = (k ≤ m) × Firsts (key s at size n) k a₀ j a
+Inv-loop a₀ m s at size n cut j₀ k₀ a j k = (k ≤ m) × Firsts (key cut s at size n) k a₀ j a
 
 abbrev μ-loop : tie.MeasureT-loop
-μ-loop a₀ m s at size n j₀ k₀ a j k = m - k
+μ-loop a₀ m s at size n cut j₀ k₀ a j k = m - k
 
 loop-holds : tie.Need-loop-holds Inv-loop μ-loop
 loop-holds c = (omega arith, firsts-start _ _)

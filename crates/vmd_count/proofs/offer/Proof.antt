@@ -15,14 +15,14 @@ is-wanted-requires c κs =
     let b = c .before .before .before .before in
     let a = b .args in
     let p = b .pre in
-    (p .1, p .2, p .3, p .5, p .4, omega (arith, marked-small (key (a .s .now) (a .at) (a .size) (a .n)) (p .7 .marked)))
+    (p .1, p .2, p .3, p .5, p .4, omega (arith, marked-small (key (a .cut) (a .s .now) (a .at) (a .size) (a .n)) (p .7 .marked)))
 
 returns : tie.Need-returns
 returns c =
     let i = c .before .before .before in
     let b = i .before .before .before .before .before in
     let a = b .args in
-    (holds-unwanted (key (a .s .now) (a .at) (a .size) (a .n)) (b .pre .7) _ (not-true _ (c .if1 .taken)) (i .is-wanted .ensures), omega arith)
+    (holds-unwanted (key (a .cut) (a .s .now) (a .at) (a .size) (a .n)) (b .pre .7) _ (not-true _ (c .if1 .taken)) (i .is-wanted .ensures), omega arith)
 
 returns-2 : tie.Need-returns-2
 returns-2 c =
@@ -30,7 +30,7 @@ returns-2 c =
     let w = i .before .before .before in
     let b = w .before .before .before .before .before in
     let a = b .args in
-    (holds-wanted (key (a .s .now) (a .at) (a .size) (a .n)) (b .pre .7) (omega arith) _ (not-false _ (i .if1 .left)) (w .is-wanted .ensures), omega arith)
+    (holds-wanted (key (a .cut) (a .s .now) (a .at) (a .size) (a .n)) (b .pre .7) (omega arith) _ (not-false _ (i .if1 .left)) (w .is-wanted .ensures), omega arith)
 
 squeeze-requires : tie.Need-squeeze-requires
 squeeze-requires c κs =
@@ -39,7 +39,7 @@ squeeze-requires c κs =
     let d = b .before .before .before .before .before in
     let a = d .args in
     let p = d .pre in
-    let w = holds-wanted (key (a .s .now) (a .at) (a .size) (a .n)) (p .7) (omega arith) _ (not-false _ (i .if1 .left)) (b .is-wanted .ensures) in
+    let w = holds-wanted (key (a .cut) (a .s .now) (a .at) (a .size) (a .n)) (p .7) (omega arith) _ (not-false _ (i .if1 .left)) (b .is-wanted .ensures) in
     let e : a .m + 1 ≡ 32768 = omega arith in
     (simp length-set (omega arith), p .2, omega arith, p .3, rw e at w)
 

@@ -10,16 +10,16 @@ use Rattle.vmd_count.proofs.pass.Statement.{statement}
 use Rattle.vmd_count.proofs.pass.Tie as tie
 
 abbrev Inv-loop : tie.InvT-loop
-Inv-loop a₀ cache₀ s at size n floor i₀ m₀ ceil₀ a cache i m ceil =
-    (i ≤ n) × (m < 32768) × (length a ≡ length a₀) × (length cache ≡ length cache₀) × Holds (key s at size n) floor ceil i m a
+Inv-loop a₀ cache₀ s at size n floor cut i₀ m₀ ceil₀ a cache i m ceil =
+    (i ≤ n) × (m < 32768) × (length a ≡ length a₀) × (length cache ≡ length cache₀) × Holds (key cut s at size n) floor ceil i m a
 
 abbrev μ-loop : tie.MeasureT-loop
-μ-loop a₀ cache₀ s at size n floor i₀ m₀ ceil₀ a cache i m ceil = n - i
+μ-loop a₀ cache₀ s at size n floor cut i₀ m₀ ceil₀ a cache i m ceil = n - i
 
 loop-holds : tie.Need-loop-holds Inv-loop μ-loop
 loop-holds c =
     let a = c .before .before .before .args in
-    (omega arith, omega arith, refl, refl, holds-start (key (a .s .now) (a .at) (a .size) (a .n)) (a .floor) (a .a .now))
+    (omega arith, omega arith, refl, refl, holds-start (key (a .cut) (a .s .now) (a .at) (a .size) (a .n)) (a .floor) (a .a .now))
 
 offer-requires : tie.Need-offer-requires Inv-loop μ-loop
 offer-requires c κs =

@@ -16,7 +16,7 @@ keep-firsts-requires c κs =
     let d = r .before .before .before .before in
     let a = d .args in
     let p = d .pre in
-    (omega arith, p .2, rank-key (a .s .now) (a .at) (a .size) (a .n) _ _ (λ k. omega (arith, b .slice-known2 .given k)) (r .sort-records .ensures .0))
+    (omega arith, p .2, rank-key (a .cut) (a .s .now) (a .at) (a .size) (a .n) _ _ (λ k. omega (arith, b .slice-known2 .given k)) (r .sort-records .ensures .0))
 
 returns : tie.Need-returns
 returns c =
@@ -27,13 +27,13 @@ returns c =
     let a = e .args in
     let s = a .s .now in
     let bs : Bytes s = λ k. omega (arith, d .shared-slice-known .given k) in
-    let r = sorted-row (key (a .s .now) (a .at) (a .size) (a .n)) (e .pre .3) (b .sort-records .ensures .1) (f .keep-firsts .ensures) in
-    let q = low-high (key (a .s .now) (a .at) (a .size) (a .n)) (a .floor) (key-top s (a .at) (a .size) (a .n) bs) (e .pre .3 .marked) in
+    let r = sorted-row (key (a .cut) (a .s .now) (a .at) (a .size) (a .n)) (e .pre .3) (b .sort-records .ensures .1) (f .keep-firsts .ensures) in
+    let q = low-high (key (a .cut) (a .s .now) (a .at) (a .size) (a .n)) (a .floor) (key-top (a .cut) s (a .at) (a .size) (a .n) bs) (e .pre .3 .marked) in
     let k = f .keep-firsts .ensures .behind in
     let w = c .weigh .ensures in
     record {
-      names-add = row-names s (a .at) (a .size) (a .n) bs _ _ _ _ r q;
-      bytes-add = row-bytes s (a .at) (a .size) (a .n) bs _ _ _ _ _ r q (w .0);
+      names-add = row-names (a .cut) s (a .at) (a .size) (a .n) bs _ _ _ _ r q;
+      bytes-add = row-bytes (a .cut) s (a .at) (a .size) (a .n) bs _ _ _ _ _ r q (w .0);
       names-few = omega arith;
       bytes-few = omega arith;
     }

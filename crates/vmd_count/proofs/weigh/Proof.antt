@@ -8,14 +8,14 @@ use Rattle.vmd_count.proofs.weigh.Statement.{statement}
 use Rattle.vmd_count.proofs.weigh.Tie as tie
 
 abbrev Inv-loop : tie.InvT-loop
-Inv-loop a k s at size n sum₀ i₀ sum i = (i ≤ k) × (sum ≡ sum-of (name-length s at size n) i a) × (sum ≤ 15 * i)
+Inv-loop a k s at size n cut sum₀ i₀ sum i = (i ≤ k) × (sum ≡ sum-of (name-length cut s at size n) i a) × (sum ≤ 15 * i)
 
 abbrev μ-loop : tie.MeasureT-loop
-μ-loop a k s at size n sum₀ i₀ sum i = k - i
+μ-loop a k s at size n cut sum₀ i₀ sum i = k - i
 
 loop-holds : tie.Need-loop-holds Inv-loop μ-loop
 loop-holds c =
-    let a = c .before .before .args in (omega arith, sum-start (a .s .now) (a .at) (a .size) (a .n) (a .a .now), omega arith)
+    let a = c .before .before .args in (omega arith, sum-start (a .cut) (a .s .now) (a .at) (a .size) (a .n) (a .a .now), omega arith)
 
 mul-name-size : tie.Need-mul-name-size Inv-loop μ-loop
 mul-name-size c = omega arith
@@ -43,7 +43,7 @@ loop-again c =
     let l = b .loop in
     let e = c .name-size .ensures in (
       omega arith,
-      sum-turn (a .s .now) (a .at) (a .size) (a .n) (l .i) (l .sum) _ (a .a .now) (l .inv .1) (e .0),
+      sum-turn (a .cut) (a .s .now) (a .at) (a .size) (a .n) (l .i) (l .sum) _ (a .a .now) (l .inv .1) (e .0),
       omega (arith, e .1),
     )
 

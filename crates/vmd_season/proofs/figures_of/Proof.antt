@@ -6,9 +6,9 @@ use Rattle.vmd_season.proofs.figures_of.Tie as tie
 
 returns : tie.Need-returns
 returns c =
-    let n = c .before .before in
-    let s = n .before .before .before in
-    figures-found _ _ (s .pre) (n .count-names .ensures .0) (c .count-names2 .ensures .0)
+    let n = c .before in
+    let s = n .before .before in
+    figures-found _ _ (s .pre) (n .count-tracks .ensures) (c .count-tracks2 .ensures)
 
 pub figures-of-spec : {M : Type 1} → statement M
-figures-of-spec = tie.close (tie.spec (λ c. search needs) (λ c κs. search needs) (λ c. search needs) (λ c κs. search needs) returns)
+figures-of-spec = tie.close (tie.spec (λ c κs. search needs) (λ c κs. search needs) returns)

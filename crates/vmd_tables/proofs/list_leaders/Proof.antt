@@ -3,6 +3,7 @@ use Prim.Native.Nat.{_≤_, _<_, _-_}
 use mathlib.Core.Path.{_≡_, refl, _∙_}
 use native.Mathlib.Omega.{arith}
 use lib.ListN.{length}
+use Rattle.vmd_keys.specs.Names.{whole}
 use Rattle.vmd_keys.specs.Keys.{key}
 use Rattle.vmd_tables.specs.Leading.{Leads, Lists, Beyond}
 use Rattle.vmd_tables.proofs.Leaders.{beyond-same, beyond-set, leads-start, lists-start, leads-turn, lists-turn, lists-end}
@@ -11,7 +12,7 @@ use Rattle.vmd_tables.proofs.list_leaders.Tie as tie
 
 abbrev Inv-loop : tie.InvT-loop
 Inv-loop leads₀ list₀ cache₀ s at size n i₀ m₀ leads list cache i m =
-    (i ≤ n) × Leads (key s at size n) i leads × Lists (key s at size n) i m leads list × Beyond n leads₀ leads × Beyond n list₀ list × (length cache ≡ length cache₀)
+    (i ≤ n) × Leads (key whole s at size n) i leads × Lists (key whole s at size n) i m leads list × Beyond n leads₀ leads × Beyond n list₀ list × (length cache ≡ length cache₀)
 
 abbrev μ-loop : tie.MeasureT-loop
 μ-loop leads₀ list₀ cache₀ s at size n i₀ m₀ leads list cache i m = n - i

@@ -2,6 +2,7 @@
 use Prim.Native.Nat.{_≤_, _-_}
 use native.Mathlib.Omega.{arith}
 use lib.ListN.{getD}
+use Rattle.vmd_keys.specs.Names.{whole}
 use Rattle.vmd_keys.specs.Keys.{key}
 use Rattle.vmd_tables.specs.Leading.{Settling, Beyond}
 use Rattle.vmd_tables.proofs.Leaders.{beyond-same, beyond-set, ranks, settling-start, settling-turn, settling-end}
@@ -9,7 +10,7 @@ use Rattle.vmd_tables.proofs.settle_leaders.Statement.{statement}
 use Rattle.vmd_tables.proofs.settle_leaders.Tie as tie
 
 abbrev Inv-loop : tie.InvT-loop
-Inv-loop leads₀ list m s at size n k₀ leads k = (k ≤ m) × Settling (key s at size n) n m k leads list × Beyond n leads₀ leads
+Inv-loop leads₀ list m s at size n k₀ leads k = (k ≤ m) × Settling (key whole s at size n) n m k leads list × Beyond n leads₀ leads
 
 abbrev μ-loop : tie.MeasureT-loop
 μ-loop leads₀ list m s at size n k₀ leads k = m - k
@@ -20,7 +21,7 @@ loop-holds c =
     let p = w .pre in
     let a = w .args in (
       omega arith,
-      settling-start (ranks (a .s .now) (a .at) (a .size) (a .n)) (p .1) (p .6) (p .4) (p .5),
+      settling-start (ranks whole (a .s .now) (a .at) (a .size) (a .n)) (p .1) (p .6) (p .4) (p .5),
       beyond-same (a .n) (a .leads .now),
     )
 
@@ -56,7 +57,7 @@ loop-again c =
     let a = y .args in
     let v = w .loop .inv in (
       omega arith,
-      settling-turn (ranks (a .s .now) (a .at) (a .size) (a .n)) (p .1) (p .6) (v .1) (t .loop-test .taken)
+      settling-turn (ranks whole (a .s .now) (a .at) (a .size) (a .n)) (p .1) (p .6) (v .1) (t .loop-test .taken)
           (omega (arith, v .2 .long)) (l .leader-of .ensures),
       beyond-set (v .2) (getD (a .list .now) (w .loop .k) 0) (l .leader-of .result) (v .1 .lists .each (w .loop .k) (t .loop-test .taken)),
     )
@@ -67,7 +68,7 @@ returns c =
     let w = l .before .before .before .before in
     let p = w .pre in
     let a = w .args in
-    (settling-end (ranks (a .s .now) (a .at) (a .size) (a .n)) (p .1) (p .6) (c .loop-test .left) (l .loop .inv .1), l .loop .inv .2)
+    (settling-end (ranks whole (a .s .now) (a .at) (a .size) (a .n)) (p .1) (p .6) (c .loop-test .left) (l .loop .inv .1), l .loop .inv .2)
 
 pub settle-leaders-spec : {M : Type 1} → statement M
 settle-leaders-spec =

@@ -9,11 +9,12 @@ use mmd_anim_format::vmd::VmdParsedMorphFrame;
 use oracle::files::{Pieces, MAGIC, SIZES};
 use oracle::names::{self, has_character, is_lead, is_trail, BESIDE_THE_INDEX, RUNS};
 use oracle::older::{is_older, NARROWER, OLDER_MAGIC};
-use oracle::original::{self, VmdParsedAnimation, ENDS_EARLY, FIRST_ABOVE_LAST, SCRATCH_TOO_SHORT};
+use oracle::original::{self, Key, VmdParsedAnimation, ENDS_EARLY, FIRST_ABOVE_LAST, SCRATCH_TOO_SHORT};
 use oracle::parts::{Columns, Parts};
 use oracle::spans::{Span, WHOLE};
 use oracle::strict::{self, Met, BYTES_OVER, EMPTIED, OVERSIZED};
 use std::borrow::Cow;
+use std::collections::HashMap;
 
 /// A slice's pointer, null where it has no elements, which include/vmd.h allows.
 fn pointer<T>(slice: &[T]) -> *const T {
@@ -710,7 +711,7 @@ fn alter_tidied(file: &[u8], out: &mut [u8], written: &mut u64) {
     if altered(Alter::TidyPastItsEnd) && end < out.len() {
         out[end] ^= 1;
     }
-    if !TIDIED_OTHERWISE.into_iter().any(altered) {
+    if !TIDIED_OTHERWISE.into_iter().chain(TRACKED_OTHERWISE).any(altered) {
         return;
     }
     let bytes = mistaken(file, &out[..end]);
@@ -725,10 +726,8 @@ fn mistaken(file: &[u8], written: &[u8]) -> Vec<u8> {
     let read = || original::read(file).expect("a file that was tidied");
     let mut tidied = original::read(written).expect("a tidied file");
     if altered(Alter::TidyFirstKept) {
-        let records = read().morph_frames;
-        for kept in &mut tidied.morph_frames {
-            *kept = records.iter().find(|record| same_key(record, kept)).expect("a record that was kept").clone();
-        }
+        let first = first_morphs(read(), |record| record.frame);
+        tidied.morph_frames.iter_mut().for_each(|kept| *kept = first[&track_of(kept, kept.frame)].clone());
     } else if altered(Alter::TidyTracksByName) {
         tidied.bone_frames.sort_by(|a, b| a.bone_name_bytes.cmp(&b.bone_name_bytes));
     } else if altered(Alter::TidyTrackUnsorted) {
@@ -744,11 +743,54 @@ fn mistaken(file: &[u8], written: &[u8]) -> Vec<u8> {
         tidied.metadata.model_name_bytes.clear();
     } else if altered(Alter::TidyDropsNothing) {
         tidied = read();
+    } else if altered(Alter::TidyRemarkCut) {
+        cut_remarks(&mut tidied);
+    } else if altered(Alter::TidyFirstName) {
+        let first = first_morphs(read(), |_| 0);
+        for kept in &mut tidied.morph_frames {
+            let first = &first[&track_of(kept, 0)];
+            kept.morph_name_bytes.clone_from(&first.morph_name_bytes);
+            kept.morph_name.clone_from(&first.morph_name);
+        }
+    } else if altered(Alter::TidyRawNames) {
+        tidied = original::tidied_by(&read(), original::raw_name);
+    } else if let Some(key) = mistaken_key(TRACKED_OTHERWISE) {
+        tidied = original::tidied_by(&read(), key);
     }
     original::export(&tidied)
 }
 
-const TIDIED_OTHERWISE: [Alter; 8] = [
+/// What an altered library takes for the part of a name that tells its track: the bytes before a carriage return, or before a
+/// line feed that is not the field's first byte, its ninth or its last.
+fn mistaken_key([at_return, first, at_8, at_14]: [Alter; 4]) -> Option<Key> {
+    let keys: [(Alter, Key); 4] = [
+        (at_return, |name| before(name, |_, byte| byte == b'\r')),
+        (first, |name| before(name, |place, byte| byte == b'\n' && place != 0)),
+        (at_8, |name| before(name, |place, byte| byte == b'\n' && place != 8)),
+        (at_14, |name| before(name, |place, byte| byte == b'\n' && place != 14)),
+    ];
+    keys.into_iter().find(|(what, _)| altered(*what)).map(|(_, key)| key)
+}
+
+fn before(name: &[u8], ends: fn(usize, u8) -> bool) -> &[u8] {
+    let end = (0..name.len()).find(|&place| ends(place, name[place])).unwrap_or(name.len());
+    &name[..end]
+}
+
+/// The names without what stands after their line feeds.
+fn cut_remarks(take: &mut VmdParsedAnimation) {
+    let cut = |bytes: &mut Vec<u8>, text: &mut String| {
+        bytes.truncate(original::registration_name(bytes).len());
+        text.clear(); // which is written where there are no bytes
+    };
+    take.bone_frames.iter_mut().for_each(|record| cut(&mut record.bone_name_bytes, &mut record.bone_name));
+    take.morph_frames.iter_mut().for_each(|record| cut(&mut record.morph_name_bytes, &mut record.morph_name));
+}
+
+const TRACKED_OTHERWISE: [Alter; 4] =
+    [Alter::TidyReturnCuts, Alter::TidyLineFeedFirst, Alter::TidyLineFeedAt8, Alter::TidyLineFeedAt14];
+
+const TIDIED_OTHERWISE: [Alter; 11] = [
     Alter::TidyFirstKept,
     Alter::TidyTracksByName,
     Alter::TidyTrackUnsorted,
@@ -757,10 +799,21 @@ const TIDIED_OTHERWISE: [Alter; 8] = [
     Alter::TidyIkStates,
     Alter::TidyModelName,
     Alter::TidyDropsNothing,
+    Alter::TidyRawNames,
+    Alter::TidyRemarkCut,
+    Alter::TidyFirstName,
 ];
 
-fn same_key(a: &VmdParsedMorphFrame, b: &VmdParsedMorphFrame) -> bool {
-    a.frame == b.frame && a.morph_name_bytes == b.morph_name_bytes
+/// A track of morphs, and a number by which its records are told apart.
+type Track = (Vec<u8>, u32);
+
+fn track_of(record: &VmdParsedMorphFrame, number: u32) -> Track {
+    (original::registration_name(&record.morph_name_bytes).to_vec(), number)
+}
+
+/// The first morph of each number in each track.
+fn first_morphs(take: VmdParsedAnimation, number: fn(&VmdParsedMorphFrame) -> u32) -> HashMap<Track, VmdParsedMorphFrame> {
+    take.morph_frames.into_iter().rev().map(|record| (track_of(&record, number(&record)), record)).collect()
 }
 
 fn alter_tidied_scratch(answer: u32, scratch: &mut [u64], figures: &mut Figures) {
@@ -1122,9 +1175,10 @@ pub struct Lent<'a> {
 /// bone names, their bytes, morph names, their bytes
 pub fn split_sizes(manner: Manner, file: &[u8], sizes: &mut [u64; 4]) -> u32 {
     call_begins(manner);
+    let read = without_remarks(file);
     let answer = read_in(manner, Call::SplitSizes, &[file], |manner| {
         let call = of_manner!(manner, vmd_split_sizes, vmd_split_sizes_lenient);
-        unsafe { call(pointer(file), file.len(), sizes) }
+        unsafe { call(pointer(&read), read.len(), sizes) }
     });
     if altered(Alter::SplitSizes) && answer == 0 {
         sizes[3] += 1;
@@ -1137,12 +1191,23 @@ pub fn split_sizes(manner: Manner, file: &[u8], sizes: &mut [u64; 4]) -> u32 {
 
 pub fn split_animation_into_parts(manner: Manner, file: &[u8], mut p: Lent, sizes: &mut [u64; 4]) -> u32 {
     call_begins(manner);
-    let answer = read_in(manner, Call::Split, &[file], |manner| split_in(manner, file, &mut p, sizes));
+    let read = without_remarks(file);
+    let answer = read_in(manner, Call::Split, &[file], |manner| split_in(manner, &read, &mut p, sizes));
     let short = || original::read(file).is_ok_and(|take| p.morph_frames.len() < take.morph_frames.len());
     if altered(Alter::PartsBeforeManner) && turned_down(answer) && short() {
         return original::PARTS_DO_NOT_FIT;
     }
     alter_split(answer, &mut p, sizes)
+}
+
+/// A take as a splitter would see it that cuts names at their line feeds.
+fn without_remarks(file: &[u8]) -> Cow<'_, [u8]> {
+    if !altered(Alter::SplitRemarkCut) || strict::met(file).answer() != 0 {
+        return Cow::Borrowed(file);
+    }
+    let mut take = original::read(file).expect("a file that is accepted in both manners");
+    cut_remarks(&mut take);
+    Cow::Owned(original::export(&take))
 }
 
 #[rustfmt::skip]
@@ -1235,6 +1300,9 @@ pub fn season_add(file: &[u8], season: &mut Season) {
     alter_season(file, &before, season);
 }
 
+const COUNTED_OTHERWISE: [Alter; 4] =
+    [Alter::SeasonReturnCuts, Alter::SeasonLineFeedFirst, Alter::SeasonLineFeedAt8, Alter::SeasonLineFeedAt14];
+
 fn alter_season(file: &[u8], before: &Season, season: &mut Season) {
     if season.figures[9] == before.figures[9] {
         if altered(Alter::SeasonInRefusal) {
@@ -1256,9 +1324,22 @@ fn alter_season(file: &[u8], before: &Season, season: &mut Season) {
         season.figures[7] = before.figures[7].wrapping_add(season.figures[0] - before.figures[0]);
     } else if altered(Alter::SeasonMorphNames) {
         season.figures[8] = before.figures[8].max(season.figures[8] - before.figures[8]);
+    } else if altered(Alter::SeasonRawBoneNames) {
+        season.figures[7] = before.figures[7].wrapping_add(names_by(file, original::raw_name)[0]);
+    } else if altered(Alter::SeasonRawMorphNames) {
+        season.figures[8] = before.figures[8].wrapping_add(names_by(file, original::raw_name)[1]);
+    } else if let Some(key) = mistaken_key(COUNTED_OTHERWISE) {
+        let [bones, morphs] = names_by(file, key);
+        season.figures[7] = before.figures[7].wrapping_add(bones);
+        season.figures[8] = before.figures[8].wrapping_add(morphs);
     } else if altered(Alter::SeasonAccepted) {
         season.figures[9] = before.figures[9];
     }
+}
+
+/// The distinct names of a take's bones and of its morphs, told by this key.
+fn names_by(file: &[u8], key: Key) -> [u64; 2] {
+    original::distinct_names(&original::read(file).expect("a take that was counted"), key).map(|names| names as u64)
 }
 
 /// The quotient and the remainder.

@@ -1,9 +1,9 @@
 //! The proved library and the original Rust on the same inputs, every result compared.
 //!
 //!     compare N SEED          N files, N part sets, N / 5 older files, N / 10 files whose names repeat, joins, joins with
-//!                             older files and names, N / 5 takes to tidy, N / 5 excerpts, N / 20 files of up to 70 property
-//!                             frames and N / 100 older ones, as many of each made for the strict manner to turn down and
-//!                             N / 20 joins of them, beside the fixed inputs
+//!                             older files and names, N / 5 takes to tidy, N / 5 excerpts, N / 20 takes with remarks, N / 20
+//!                             files of up to 70 property frames and N / 100 older ones, as many of each made for the strict
+//!                             manner to turn down and N / 20 joins of them, beside the fixed inputs
 //!     compare self-test       alters one result after another: each has to be reported
 //!
 //! The working directory is the repository, whose table of request h) is compared too.
@@ -91,7 +91,14 @@ fn compare(cases: u64, seed: u64) -> ExitCode {
     excerpts.print();
     excerpt_check.met.print();
     print_excerpts(&excerpt_check.tally);
-    let tallies = [&names, &triples, &files, &older, &joins, &older_joins, &strict_joins, &parts, &huge, &tidying, &excerpts];
+    let (remarks, remark_check) = timed("takes with remarks", || runs::with_remarks(cases / 20, seed));
+    remarks.print();
+    remark_check.tidying.met.print();
+    print_splits(&remark_check.files.split);
+    print_seasons(&remark_check.files.season);
+    print_tidied(&remark_check.tidying.tally);
+    let tallies =
+        [&names, &triples, &files, &older, &joins, &older_joins, &strict_joins, &parts, &huge, &tidying, &excerpts, &remarks];
     let cases: u64 = tallies.iter().map(|tally| tally.cases()).sum();
     let differences: usize = tallies.iter().map(|tally| tally.differences.len()).sum::<usize>() + index.differences.len();
     println!("{cases} cases, {} of them older files, {differences} differences", older_check.editions.older);
@@ -164,6 +171,10 @@ fn print_tidied(tally: &tidy::TidyTally) {
         tally.takes, tally.dropped_from, tally.reordered
     );
     println!("    {} tracks with {} records kept and {} dropped", tally.tracks, tally.kept, tally.dropped);
+    println!(
+        "    {} takes with a line feed in a name: {} tracks of more than one spelling, {} records dropped that whole names keep",
+        tally.with_line_feeds, tally.several_spellings, tally.dropped_by_key
+    );
 }
 
 fn print_excerpts(tally: &excerpt::ExcerptTally) {
@@ -190,12 +201,13 @@ fn print_marked(tally: &parts::MarkedTally) {
 const SELF_TEST_CASES: u64 = 3000;
 
 /// The short runs first, of them those that report the most.
-const RUNS: [fn() -> Tally; 9] = [
+const RUNS: [fn() -> Tally; 10] = [
     || runs::joins(SELF_TEST_CASES, 1).0,
     || runs::older_joins(SELF_TEST_CASES, 1).0,
     || runs::turned_down_joins(SELF_TEST_CASES, 1).0,
     || runs::excerpts(SELF_TEST_CASES, 1).0,
     || runs::older_files(SELF_TEST_CASES, 1).0,
+    || runs::with_remarks(SELF_TEST_CASES, 1).0,
     || runs::names(SELF_TEST_CASES, 1).0,
     || runs::parts(SELF_TEST_CASES, 1).0,
     || runs::tidying(SELF_TEST_CASES, 1).0,

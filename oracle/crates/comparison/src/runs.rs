@@ -5,17 +5,19 @@ use crate::files::FileCheck;
 use crate::joins::JoinCheck;
 use crate::name_test::NameTally;
 use crate::parts::PartsCheck;
-use crate::tally::Tally;
+use crate::tally::{Answers, Tally};
 use crate::tidy::TidyCheck;
 use oracle::crowded;
 use oracle::files::{self, file_kind, file_of, FileKind, FILE_KINDS};
 use oracle::named::{self, FEW_NAMES};
 use oracle::names::{self, is_lead, pair_of, BYTE_ORDER_MARKS, POINTERS};
 use oracle::older::{self, narrowed, of_either_edition};
+use oracle::original;
 use oracle::part_sets::{self, set_kind, set_of, SetKind, FAULTS, PLACES, SET_KINDS};
 use oracle::parts::Parts;
 use oracle::properties::{self, UP_TO_70};
 use oracle::random::Random;
+use oracle::remarks::{self, OLDER_REMARKS, REMARKS, SPELLED_OTHERWISE};
 use oracle::spans;
 use oracle::turned_down::{self, turned_down};
 
@@ -35,6 +37,7 @@ const TURNED_DOWN: u64 = 12 << 60;
 const OLDER_TURNED_DOWN: u64 = 13 << 60;
 const TURNED_DOWN_JOINS: u64 = 14 << 60;
 const EXCERPTS: u64 = 15 << 60;
+const WITH_REMARKS: u64 = 31 << 59;
 
 fn hex(bytes: &[u8]) -> String {
     bytes.iter().map(|byte| format!("{byte:02x}")).collect()
@@ -301,6 +304,56 @@ pub fn tidying(cases: u64, seed: u64) -> (Tally, TidyCheck) {
     for case in 0..cases {
         let (label, file) = crowded::crowded_file(&mut Random::for_case(seed, CROWDED + case));
         tally.count(label, check.check_file(&file), || format!("random take {case} to tidy: {}", shown_file(&file)));
+    }
+    (tally, check)
+}
+
+// ---- remarks
+
+const EACH_PLACE: &str = "each place of a line feed and of lookalikes";
+const MANY_REMARKS: &str = "thousands of records with remarks";
+
+/// Files through every call, and each tidied with every scratch and output.
+pub struct RemarkCheck {
+    pub files: FileCheck,
+    pub tidying: TidyCheck,
+}
+
+impl RemarkCheck {
+    fn check(&mut self, file: &[u8]) -> Result<Answers, String> {
+        self.files.check(file)?;
+        self.tidying.check_file(file)
+    }
+
+    /// Two takes, and their join.
+    fn check_joined(&mut self, takes: [&[u8]; 2]) -> Result<Answers, String> {
+        let joined = original::join_files(takes[0], takes[1]).expect("whole takes are joined");
+        for file in [takes[0], takes[1], &joined] {
+            self.files.check(file)?;
+        }
+        self.tidying.check_joined(takes)
+    }
+}
+
+pub fn with_remarks(cases: u64, seed: u64) -> (Tally, RemarkCheck) {
+    let labels = [EACH_PLACE, MANY_REMARKS, REMARKS, OLDER_REMARKS, SPELLED_OTHERWISE];
+    let title = "Takes with remarks: tracks told by what the original registers of a name, parts by the whole name";
+    let mut tally = Tally::new(title, &labels);
+    let mut check = RemarkCheck { files: FileCheck::new(seed), tidying: TidyCheck::default() };
+    let mut random = Random::for_case(seed, FIXED + 7);
+    let places = remarks::each_place(&mut random).into_iter().map(|file| (EACH_PLACE, file));
+    let many = remarks::many_with_remarks(&mut random).into_iter().map(|file| (MANY_REMARKS, file));
+    for (label, file) in places.chain(many) {
+        tally.count(label, check.check(&file), || shown_file(&file));
+    }
+    for case in 0..cases {
+        let (label, take, joined_with) = remarks::with_remarks(&mut Random::for_case(seed, WITH_REMARKS + case));
+        let checked = match &joined_with {
+            Some(second) => check.check_joined([&take, second]),
+            None => check.check(&take),
+        };
+        let second = || joined_with.iter().map(|second| format!(" and {}", hex(second))).collect::<String>();
+        tally.count(label, checked, || format!("random take {case} with remarks: {}{}", hex(&take), second()));
     }
     (tally, check)
 }

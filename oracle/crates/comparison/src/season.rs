@@ -1,9 +1,9 @@
-//! Season figures over lists of files. The original has none: expected are those of its readings, by request b)'s rule.
+//! Season figures over lists of files. The original has none: expected are those of its readings, by the rules of requests b)
+//! and k), names told apart as it registers them.
 
 use crate::check::{same, Checked, SLOT};
 use crate::library::{self, Season};
 use oracle::original::{self, VmdParsedAnimation};
-use std::collections::HashSet;
 
 /// Files of the longest list.
 pub const LONGEST: u64 = 40;
@@ -72,9 +72,8 @@ impl SeasonCheck {
 /// The figures with the take, where none of them passes 64 bits.
 fn counted(season: &Season, take: &VmdParsedAnimation) -> Option<Season> {
     let counts = original::counts_of(take);
-    let bone_names: HashSet<&[u8]> = take.bone_frames.iter().map(|frame| &frame.bone_name_bytes[..]).collect();
-    let morph_names: HashSet<&[u8]> = take.morph_frames.iter().map(|frame| &frame.morph_name_bytes[..]).collect();
-    let added = counts.into_iter().chain([counts.iter().sum(), bone_names.len(), morph_names.len(), 1]);
+    let [bone_names, morph_names] = original::distinct_names(take, original::registration_name);
+    let added = counts.into_iter().chain([counts.iter().sum(), bone_names, morph_names, 1]);
     let mut with = season.clone();
     for (figure, added) in with.figures.iter_mut().zip(added) {
         *figure = figure.checked_add(added as u64)?;

@@ -1,5 +1,5 @@
 //! A file tidied. Expected are the records that the original's `last_vmd_keys_per_frame` keeps of each track of its reading, as
-//! its exporter writes them.
+//! its exporter writes them; bones and morphs are of one track where its `vmd_registration_name` leaves the same of their names.
 
 use crate::check::{same, Checked, SLOT};
 use crate::lent::{Input, Output, Scratch};
@@ -30,6 +30,11 @@ pub struct TidyTally {
     pub tracks: u64,
     pub kept: u64,
     pub dropped: u64,
+    /// Takes with a line feed in the name of a bone or morph, tracks whose names are not all the same, and records that are
+    /// dropped where whole names would tell the tracks and keep them.
+    pub with_line_feeds: u64,
+    pub several_spellings: u64,
+    pub dropped_by_key: u64,
 }
 
 /// What tidying has to give.
@@ -68,6 +73,16 @@ impl TidyCheck {
         }
         self.met.add(file, met);
         Ok(read.answers())
+    }
+
+    /// "Tidying a join equals tidying the join of the two tidied takes": both by the original, and the library tidies both.
+    pub fn check_joined(&mut self, takes: [&[u8]; 2]) -> Result<Answers, String> {
+        let joined = original::join_files(takes[0], takes[1]).expect("whole takes are joined");
+        let [first, second] = takes.map(original_tidied);
+        let of_tidied = original::join_files(&first, &second).expect("tidied takes are joined");
+        same("the tidied join, by the original", &original_tidied(&joined)[..], &original_tidied(&of_tidied))?;
+        self.check_file(&of_tidied)?;
+        self.check_file(&joined)
     }
 
     /// One trial, another one for each file.
@@ -141,6 +156,10 @@ fn tidied_of(read: &Read) -> (Tidied, VmdParsedAnimation) {
     (Tidied { bytes: original::export(&take), figures, places, exported_len: read.exported.len() }, take)
 }
 
+fn original_tidied(file: &[u8]) -> Vec<u8> {
+    original::export(&original::tidied(&original::read(file).expect("a whole take")))
+}
+
 /// Refusals 3 and 13 by request g).
 fn expected_of(tidied: Result<&Tidied, u32>, lengths: Lengths) -> Result<&Tidied, u32> {
     match tidied {
@@ -190,8 +209,7 @@ fn check_read_back(bytes: &[u8], tidied: &VmdParsedAnimation) -> Checked {
 impl TidyTally {
     fn add(&mut self, Read { take, exported }: &Read, Tidied { bytes, figures, .. }: &Tidied) {
         let sum = |numbers: &[u32; 6]| numbers.iter().map(|&number| number as u64).sum::<u64>();
-        let bones = original::tracks(&take.bone_frames, |record| &record.bone_name_bytes).len();
-        let morphs = original::tracks(&take.morph_frames, |record| &record.morph_name_bytes).len();
+        let [bones, morphs] = original::distinct_names(take, original::registration_name);
         let others = original::counts_of(take)[2..].iter().filter(|&&count| count > 0).count();
         let dropped = sum(&figures.dropped);
         self.takes += 1;
@@ -200,5 +218,17 @@ impl TidyTally {
         self.tracks += (bones + morphs + others) as u64;
         self.kept += sum(&figures.kept);
         self.dropped += dropped;
+        self.add_remarks(take, figures);
+    }
+
+    fn add_remarks(&mut self, take: &VmdParsedAnimation, figures: &Figures) {
+        let mut names = original::names(take);
+        if !names.any(|name| name.contains(&b'\n')) {
+            return;
+        }
+        let raw = original::counts_of(&original::tidied_by(take, original::raw_name));
+        self.with_line_feeds += 1;
+        self.several_spellings += original::tracks_of_several_names(take) as u64;
+        self.dropped_by_key += (0..2).map(|i| raw[i] as u64 - figures.kept[i] as u64).sum::<u64>();
     }
 }

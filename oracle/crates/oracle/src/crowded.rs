@@ -52,7 +52,7 @@ pub(crate) fn record_at(section: usize, frame: u32, random: &mut Random) -> Vec<
     record
 }
 
-/// A remark after the name in some: it is part of the name, so these are tracks of their own.
+/// A remark after the name in some, which their track does not depend on.
 fn add_line_feed(field: &mut [u8], random: &mut Random) {
     let end = field.iter().position(|&byte| byte == 0).unwrap_or(field.len());
     if end + 2 < field.len() && random.one_in(6) {

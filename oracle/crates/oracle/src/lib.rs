@@ -11,6 +11,7 @@ pub mod part_sets;
 pub mod parts;
 pub mod properties;
 pub mod random;
+pub mod remarks;
 pub mod spans;
 pub mod strict;
 pub mod turned_down;

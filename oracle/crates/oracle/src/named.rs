@@ -71,7 +71,7 @@ pub(crate) fn put_name(field: &mut [u8], names: &[Vec<u8>], random: &mut Random)
 }
 
 /// Finite floats, and a self-shadow mode up to 2.
-fn make_buildable(section: usize, record: &mut [u8]) {
+pub(crate) fn make_buildable(section: usize, record: &mut [u8]) {
     let (at, count) = FLOATS[section];
     for float in record[at..at + 4 * count].chunks_mut(4) {
         float[2] &= 0x7f; // the exponent's lowest bit: not all of them are set

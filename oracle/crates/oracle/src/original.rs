@@ -10,7 +10,7 @@ use mmd_anim_format::vmd::{
     build_vmd_animation_from_parts, export_vmd_animation, parse_vmd_animation, VmdPartsDescriptor, VmdPartsInput,
     VmdPartsNameEntry, VmdPoseExport,
 };
-use std::collections::HashMap;
+use std::collections::{HashMap, HashSet};
 
 pub const ENDS_EARLY: u32 = 1;
 pub const MAGIC_DIFFERS: u32 = 2;
@@ -94,11 +94,17 @@ pub fn counts_of(take: &VmdParsedAnimation) -> [usize; 6] {
 
 // ---- tidying
 
-/// Request g)'s tidied take. Which records a track keeps, and in which order, is the original's own answer.
+/// Request g)'s tidied take, its tracks told as request k) has it. Which records a track keeps, and in which order, is the
+/// original's own answer.
 pub fn tidied(take: &VmdParsedAnimation) -> VmdParsedAnimation {
+    tidied_by(take, registration_name)
+}
+
+/// By another key of a name.
+pub fn tidied_by(take: &VmdParsedAnimation, key: Key) -> VmdParsedAnimation {
     VmdParsedAnimation {
-        bone_frames: tidied_records(&take.bone_frames, |record| &record.bone_name_bytes, |record| record.frame),
-        morph_frames: tidied_records(&take.morph_frames, |record| &record.morph_name_bytes, |record| record.frame),
+        bone_frames: tidied_records(&take.bone_frames, |record| key(&record.bone_name_bytes), |record| record.frame),
+        morph_frames: tidied_records(&take.morph_frames, |record| key(&record.morph_name_bytes), |record| record.frame),
         camera_frames: tidied_records(&take.camera_frames, |_| &[], |record| record.frame),
         light_frames: tidied_records(&take.light_frames, |_| &[], |record| record.frame),
         self_shadow_frames: tidied_records(&take.self_shadow_frames, |_| &[], |record| record.frame),
@@ -107,16 +113,61 @@ pub fn tidied(take: &VmdParsedAnimation) -> VmdParsedAnimation {
     }
 }
 
-fn tidied_records<T: Clone>(records: &[T], name: impl Fn(&T) -> &[u8], frame: impl Fn(&T) -> u32) -> Vec<T> {
-    let kept = tracks(records, name).into_iter().flat_map(|track| last_keys_per_frame(track, &frame));
+/// What of a name tells its track.
+pub type Key = fn(&[u8]) -> &[u8];
+
+/// The original's own cut at the line feed.
+pub fn registration_name(name: &[u8]) -> &[u8] {
+    VmdPoseExport::vmd_registration_name(name)
+}
+
+/// The whole name.
+pub fn raw_name(name: &[u8]) -> &[u8] {
+    name
+}
+
+fn tidied_records<T: Clone>(records: &[T], key: impl Fn(&T) -> &[u8], frame: impl Fn(&T) -> u32) -> Vec<T> {
+    let kept = tracks(records, key).into_iter().flat_map(|track| last_keys_per_frame(track, &frame));
     kept.cloned().collect()
 }
 
-/// "Bone and morph tracks are the records of one name, laid one after another in order of first appearance".
-pub fn tracks<T>(records: &[T], name: impl Fn(&T) -> &[u8]) -> Vec<Vec<&T>> {
+/// The names of bones, then of morphs.
+pub fn names(take: &VmdParsedAnimation) -> impl Iterator<Item = &[u8]> {
+    bone_names(take).chain(morph_names(take))
+}
+
+fn bone_names(take: &VmdParsedAnimation) -> impl Iterator<Item = &[u8]> {
+    take.bone_frames.iter().map(|record| &record.bone_name_bytes[..])
+}
+
+fn morph_names(take: &VmdParsedAnimation) -> impl Iterator<Item = &[u8]> {
+    take.morph_frames.iter().map(|record| &record.morph_name_bytes[..])
+}
+
+/// How many names of bones and of morphs there are that differ in their keys.
+pub fn distinct_names(take: &VmdParsedAnimation, key: Key) -> [usize; 2] {
+    let bones: HashSet<&[u8]> = bone_names(take).map(key).collect();
+    let morphs: HashSet<&[u8]> = morph_names(take).map(key).collect();
+    [bones.len(), morphs.len()]
+}
+
+/// How many tracks of bones and morphs have names that are not all the same.
+pub fn tracks_of_several_names(take: &VmdParsedAnimation) -> usize {
+    keys_of_several(bone_names(take)) + keys_of_several(morph_names(take))
+}
+
+fn keys_of_several<'t>(names: impl Iterator<Item = &'t [u8]>) -> usize {
+    let spellings: HashSet<&[u8]> = names.collect();
+    let mut by_key = HashMap::new();
+    spellings.into_iter().for_each(|name| *by_key.entry(registration_name(name)).or_insert(0) += 1);
+    by_key.into_values().filter(|&spellings| spellings > 1).count()
+}
+
+/// The records of one key, "laid one after another in order of first appearance".
+fn tracks<T>(records: &[T], key: impl Fn(&T) -> &[u8]) -> Vec<Vec<&T>> {
     let (mut numbers, mut tracks) = (HashMap::new(), Vec::new());
     for record in records {
-        let number = *numbers.entry(name(record)).or_insert(tracks.len());
+        let number = *numbers.entry(key(record)).or_insert(tracks.len());
         if number == tracks.len() {
             tracks.push(Vec::new());
         }
