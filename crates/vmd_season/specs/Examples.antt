@@ -53,14 +53,15 @@ pub season-told :
 unfolding computed figures-computed
 season-told = refl
 
--- 02 k): bones "A", "A" with two remarks, none and a line feed alone, of two tracks; morphs "A" and "A", a CR and "x", of two
+-- 02 k): bones "A", "A" with two remarks, none and a line feed alone, of two tracks; morphs "A",
+-- "A" with a CR and "x", and "A" with a remark, of two
 abbrev remarks : List ℕ
 remarks =
     let bone : List ℕ → List ℕ = λ n. n ++ replicate 96 1 in
     let morph : List ℕ → List ℕ = λ n. n ++ replicate 8 1 in
     start ++ fours (5 ∷ []) ++ bone (65 ∷ replicate 14 0) ++ bone (65 ∷ 10 ∷ 120 ∷ replicate 12 0) ++ bone (65 ∷ 10 ∷ replicate 13 121)
     ++ bone (0 ∷ 10 ∷ replicate 13 0) ++ bone (10 ∷ replicate 14 0)
-    ++ fours (2 ∷ []) ++ morph (65 ∷ replicate 14 0) ++ morph (65 ∷ 13 ∷ 120 ∷ replicate 12 0)
+    ++ fours (3 ∷ []) ++ morph (65 ∷ replicate 14 0) ++ morph (65 ∷ 13 ∷ 120 ∷ replicate 12 0) ++ morph (65 ∷ 10 ∷ 120 ∷ replicate 12 0)
 
 pub remarks-told : (season lenient (remarks ∷ []) .bone-names ≡ 2) × (season lenient (remarks ∷ []) .morph-names ≡ 2)
 unfolding computed figures-computed

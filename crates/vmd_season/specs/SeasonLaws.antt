@@ -101,27 +101,6 @@ unfolding bone-without
 names-without [] = refl
 names-without (b ∷ l) = ap {B = List (List ℕ)} (λ r. b .name ∷ r) (names-without l)
 
-figures-without : (t : Take) → figures-of (without-interpolation t) ≡ figures-of t
-unfolding figures-of without-interpolation bone-names-of morph-names-of
-figures-without t =
-    let b = length-map (t .bones) bone-without in
-    let c = length-map (t .cameras) camera-without in
-    let n = ap (λ l. length (distinct (map registration-name l))) (names-without (t .bones)) in
-    λ i. record {
-      bones = b i;
-      morphs = length (t .morphs);
-      cameras = c i;
-      lights = length (t .lights);
-      self-shadows = length (t .self-shadows);
-      properties = length (t .properties);
-      bone-names = n i;
-      morph-names = length (distinct (map registration-name (map (λ m. m .name) (t .morphs))));
-    }
-
--- "Takes that differ only in interpolation bytes .. give equal figures."
-pub same-figures : (t u : Take) → without-interpolation t ≡ without-interpolation u → figures-of t ≡ figures-of u
-same-figures t u e = sym (figures-without t) ∙ ap figures-of e ∙ figures-without u
-
 -- 02 k), "Season figures .. follow": of the names only what tells their tracks counts
 pub figures-follow : (t u : Take) → map registration-name (bone-names-of t) ≡ map registration-name (bone-names-of u)
     → map registration-name (morph-names-of t) ≡ map registration-name (morph-names-of u) → length (t .cameras) ≡ length (u .cameras)
@@ -145,6 +124,16 @@ figures-follow t u b m c l s p =
     as-many : {A : Type 0} (nm : A → List ℕ) (l k : List A) → map registration-name (map nm l) ≡ map registration-name (map nm k) → length l ≡ length k
     as-many nm l k e =
         omega (arith, ap length e, length-map (map nm l) registration-name, length-map l nm, length-map (map nm k) registration-name, length-map k nm)
+
+figures-without : (t : Take) → figures-of (without-interpolation t) ≡ figures-of t
+unfolding without-interpolation bone-names-of morph-names-of
+figures-without t =
+    figures-follow (without-interpolation t) t (ap (map registration-name) (names-without (t .bones))) refl
+    (length-map (t .cameras) camera-without) refl refl refl
+
+-- "Takes that differ only in interpolation bytes .. give equal figures."
+pub same-figures : (t u : Take) → without-interpolation t ≡ without-interpolation u → figures-of t ≡ figures-of u
+same-figures t u e = sym (figures-without t) ∙ ap figures-of e ∙ figures-without u
 
 answer-without : (z : Season) (x : Answer Take) → with-answer z (map-answer without-interpolation x) ≡ with-answer z x
 unfolding with-answer map-answer
