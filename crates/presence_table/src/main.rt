@@ -1,10 +1,12 @@
 // Prints the presence table of the jis0208 index on standard input, one word a line in decimal; or says on standard error why
 // there is none, and prints nothing.
+#![tactic(auto)]
+
 use libc::{STDERR_FILENO, STDIN_FILENO, STDOUT_FILENO};
 use vmd_index::{Cause, IndexRead, IndexReader, Outcome};
 
 // What has been read, and whether that is all of standard input.
-#[derive(Drop)]
+#[derive(Clone, Copy)]
 struct Input {
     reader: IndexReader,
     whole: bool,

@@ -1,1 +1,3 @@
 // The original's answers, computed in specs/; no code.
+
+#![tactic(auto)]

@@ -1,5 +1,7 @@
 // What every other crate names: the refusals, the editions, their magics and sizes, the manner of reading, and a section of a
 // file.
+#![tactic(auto)]
+
 ghost use Rattle.std.specs.Prelude.{◌≡◌, ◌≤◌};
 ghost use Rattle.vmd_format.specs.Refusal.{number};
 ghost use Rattle.vmd_format.specs.Take.{model_width};
@@ -29,7 +31,7 @@ pub const OLDER_MAGIC: [u8; MAGIC_SIZE] = *b"Vocaloid Motion Data file\0\0\0\0\0
 // ---- types
 
 // What is turned down: the table of refusals.
-#[derive(Drop)]
+#[derive(Clone, Copy)]
 pub enum VmdRefusal {
     FileEndsEarly,
     MagicDiffers,
@@ -79,7 +81,7 @@ impl VmdRefusal {
 }
 
 // The editions of the format. Their headers differ, and nothing else.
-#[derive(Drop)]
+#[derive(Clone, Copy)]
 pub enum VmdEdition {
     Newer,
     Older,
@@ -100,21 +102,21 @@ impl VmdEdition {
 // The manner of reading a whole take. Strict, which is meant where none is named: an oversized camera, light or self-shadow
 // count is refused, and so are bytes after the last property frame. Lenient: such a count empties its section, and such bytes
 // are ignored.
-#[derive(Drop)]
+#[derive(Clone, Copy)]
 pub enum VmdManner {
     Strict,
     Lenient,
 }
 
 // How many records a section has, and where the first is.
-#[derive(Drop)]
+#[derive(Clone, Copy)]
 pub struct VmdSection {
     pub count: u32,
     pub place: usize,
 }
 
 // A part of a file: where it begins, and how many bytes it has; 0 and 0 where there is none.
-#[derive(Drop)]
+#[derive(Clone, Copy)]
 pub struct VmdPart {
     pub at: usize,
     pub len: usize,

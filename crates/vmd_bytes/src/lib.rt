@@ -1,5 +1,7 @@
 // Bytes: numbers, copies, name fields, flags and floats, as the reader and the exporter use them. Internal: callers see to
 // the lengths.
+#![tactic(auto)]
+
 ghost use Rattle.std.specs.Prelude.{◌≡◌, ◌+◌, ◌<◌, ◌≤◌, min, max, true, not, ◌&&◌, map, length, take, drop, replicate, if◌then◌else◌, ◌==◌, from_bits, to_bits};
 ghost use Rattle.std.specs.Float.{binary32};
 ghost use Rattle.vmd_format.specs.Bytes.{u32, u32_bytes, before_zero, padded, is_set, flag_byte, is_zero, inverted_byte};

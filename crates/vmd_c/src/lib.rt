@@ -1,6 +1,8 @@
 // The library for C, thin over the calls of vmd_reader, vmd_export, vmd_names, vmd_parts, vmd_split, vmd_season, vmd_tidy,
 // vmd_excerpt and vmd_canonical, and for its slots over vmd_slots. include/vmd.h says how C calls it. Every function states what
 // it returns, and every slot and buffer at exit, by equations with definitions.
+#![tactic(auto)]
+
 ghost use Rattle.std.specs.Prelude.{◌≡◌, [], ◌*◌, length};
 ghost use Rattle.vmd_format.specs.Bytes.{flag_byte};
 ghost use Rattle.vmd_format.specs.Names.{fault};

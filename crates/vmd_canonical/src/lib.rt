@@ -1,5 +1,7 @@
 // Whether saving would leave a file as it is, and what it would touch first. Public: the pub calls ask nothing of their caller
 // and write nothing, and each states its answer by an equation with a definition.
+#![tactic(auto)]
+
 ghost use Rattle.std.specs.Prelude.{◌≡◌, ◌≤◌, length};
 ghost use Rattle.vmd_format.specs.Answer.{given};
 ghost use Rattle.vmd_format.specs.Bytes.{u32_bytes};
@@ -24,7 +26,7 @@ use vmd_records::VmdKind;
 use vmd_scan::{ScanAnswer, VmdSections};
 
 // A refusal, or whether the file equals its export.
-#[derive(Drop)]
+#[derive(Clone, Copy)]
 pub enum VmdCanonical {
     Refused(VmdRefusal),
     Yes,
@@ -32,7 +34,7 @@ pub enum VmdCanonical {
 }
 
 // A refusal, or the first place at which the file and its export differ or just one of them has ended.
-#[derive(Drop)]
+#[derive(Clone, Copy)]
 pub enum VmdChange {
     Refused(VmdRefusal),
     Nowhere,

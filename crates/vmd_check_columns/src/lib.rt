@@ -1,4 +1,6 @@
 // Checks of columns: their lengths, the counts, and each bone's and morph's name index and floats. Internal.
+#![tactic(auto)]
+
 ghost use Rattle.std.specs.Prelude.{◌≡◌, true, ◌+◌, ◌*◌, ◌≤◌, ◌<◌, length, take, drop, eqb};
 ghost use Rattle.vmd_format.specs.Parts.{each, frames, all_finite, upto};
 ghost use Rattle.vmd_names.specs.Meaning.{check_of};

@@ -1,4 +1,6 @@
 // Checks of record bytes: cameras, lights, self-shadows and property frames, each read as the layouts do. Internal.
+#![tactic(auto)]
+
 ghost use Rattle.std.specs.Prelude.{◌≡◌, true, ◌+◌, ◌*◌, ◌≤◌, ◌<◌, length, drop};
 ghost use Rattle.vmd_format.specs.Records.{camera, light, self_shadow, ik_state};
 ghost use Rattle.vmd_format.specs.Read.{table};
@@ -174,7 +176,7 @@ fn ik_states_check(
 // ---- property frames
 
 // What a walk over property frames finds: they end with the bytes, or not.
-#[derive(Drop)]
+#[derive(Clone, Copy)]
 pub enum Frames {
     NotWhole,
     Whole(usize),

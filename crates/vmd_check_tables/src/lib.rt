@@ -1,4 +1,6 @@
 // Checks of name tables: whether the ends are right, and the names in turn. Internal: callers see to what a check asks.
+#![tactic(auto)]
+
 ghost use Rattle.std.specs.Prelude.{◌≡◌, true, ◌+◌, ◌<◌};
 ghost use Rattle.vmd_format.specs.Parts.{name_check, table_right, names_of, each};
 ghost use Rattle.vmd_names.specs.Meaning.{check_of};

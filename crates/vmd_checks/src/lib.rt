@@ -1,4 +1,6 @@
 // The checks of the parts that a file is built from, in their order. Internal.
+#![tactic(auto)]
+
 ghost use Rattle.std.specs.Prelude.{◌≡◌, true, ◌*◌, length};
 ghost use Rattle.vmd_format.specs.Parts.{table_right, is_got, frames, parts_check};
 ghost use Rattle.vmd_names.specs.Meaning.{check_of};

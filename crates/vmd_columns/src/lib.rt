@@ -1,5 +1,7 @@
 // Columns out of the records of a section: frames, floats by their bits, and interpolation bytes, each at the front of its
 // buffer. Internal: callers see to the lengths.
+#![tactic(auto)]
+
 ghost use Rattle.std.specs.Prelude.{◌≡◌, ◌+◌, ◌*◌, ◌≤◌, length};
 ghost use Rattle.vmd_bytes.specs.Slices.{splice, run};
 ghost use Rattle.vmd_columns.specs.Columns.{numbers_at, column};

@@ -1,6 +1,8 @@
 // A file compared with its canonical bytes, where they stand: names, flags and the records of a section. Internal: callers see
 // to the lengths. Each comparison gives the place after what it compared, or the first place at which saving would change a
 // byte.
+#![tactic(auto)]
+
 ghost use Rattle.std.specs.Prelude.{◌≡◌, true, ◌+◌, ◌*◌, ◌≤◌, length, drop, replicate};
 ghost use Rattle.vmd_format.specs.Fetch.{next_frame};
 ghost use Rattle.vmd_format.specs.Read.{table, write_all};
@@ -18,7 +20,7 @@ use vmd_records::{
     VmdParsedMorphFrame, VmdParsedPropertyFrame, VmdParsedSelfShadowFrame,
 };
 
-#[derive(Drop)]
+#[derive(Clone, Copy)]
 pub enum VmdCompared {
     Same(usize),
     Differs(usize),

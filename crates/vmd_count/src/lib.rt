@@ -1,5 +1,7 @@
 // The distinct names of a section, byte for byte or up to the line feed, counted with no lent memory: passes over its records, each of which finds the names above
 // a floor, as many as fit in a local array of record numbers. Internal: callers see to the lengths.
+#![tactic(auto)]
+
 ghost use Rattle.std.specs.Prelude.{◌≡◌, true, false, ◌+◌, ◌-◌, ◌*◌, ◌≤◌, ◌<◌, length};
 ghost use Rattle.vmd_format.specs.Read.{write_all};
 ghost use Rattle.vmd_keys.specs.Names.{names_in, cut_names, distinct};
@@ -10,14 +12,14 @@ ghost use Rattle.vmd_count.specs.Held.{low, high, name_length, sum_of, Holds, Fi
 use vmd_keys::VmdCut;
 
 // How many names, and how many bytes they have together.
-#[derive(Drop)]
+#[derive(Clone, Copy)]
 pub struct VmdNames {
     pub names: u64,
     pub bytes: u64,
 }
 
 // The first m places are held; the ceiling is a record's number and 1, or 0 for none.
-#[derive(Drop)]
+#[derive(Clone, Copy)]
 struct Held {
     m: usize,
     ceil: usize,

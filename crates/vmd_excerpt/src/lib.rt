@@ -1,6 +1,8 @@
 // An excerpt of a take: the records whose frame lies between a first and a last, both included, with the first subtracted from
 // each frame. Public: the pub calls ask nothing of their caller, and each states its answer, and every byte lent, by an
 // equation with a definition.
+#![tactic(auto)]
+
 ghost use Rattle.std.specs.Prelude.{◌≡◌, length};
 ghost use Rattle.vmd_format.specs.Answer.{given, map_answer, fitted, within, left};
 ghost use Rattle.vmd_format.specs.Read.{strict};

@@ -1,5 +1,7 @@
 // Sections of an excerpt: the records whose frame lies between a first and a last, counted, and written with the first frame
 // subtracted from theirs. Internal: callers see to the lengths.
+#![tactic(auto)]
+
 ghost use Rattle.std.specs.Prelude.{◌≡◌, map, ◌+◌, ◌*◌, ◌≤◌, length, drop};
 ghost use Rattle.vmd_format.specs.Bytes.{u32};
 ghost use Rattle.vmd_format.specs.Characters.{between};
@@ -62,7 +64,7 @@ pub fn count_records(s: &[u8], kind: VmdKind, x: VmdSection, first: u32, last: u
 }
 
 // How many property frames, and how many IK states they have together.
-#[derive(Drop)]
+#[derive(Clone, Copy)]
 pub struct VmdKeptFrames {
     pub frames: u32,
     pub ik_states: u64,
@@ -160,7 +162,7 @@ fn write_run(
 // ---- a section
 
 // Where the records end, and how many there are.
-#[derive(Drop)]
+#[derive(Clone, Copy)]
 struct VmdPiece {
     end: usize,
     kept: u32,

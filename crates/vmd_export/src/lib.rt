@@ -1,5 +1,7 @@
 // Saving a take and joining two. Public: the pub calls ask nothing of their caller, and each states its answer, and every
 // byte lent, by an equation with a definition.
+#![tactic(auto)]
+
 ghost use Rattle.std.specs.Prelude.{◌≡◌, ◌&&◌, ◌+◌, leb, length};
 ghost use Rattle.vmd_format.specs.Answer.{given, map_answer, fitted, within, left};
 ghost use Rattle.vmd_format.specs.Read.{strict};
@@ -77,7 +79,7 @@ fn size_of_both(limit: usize, edition: VmdEdition, a: VmdSections, b: VmdSection
 // ---- scanning
 
 // Two files, or the first refusal.
-#[derive(Drop)]
+#[derive(Clone, Copy)]
 enum BothAnswer {
     Refused(VmdRefusal),
     Scanned(VmdSections, VmdSections),

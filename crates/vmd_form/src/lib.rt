@@ -1,1 +1,3 @@
 // The canonical form of a file: definitions and laws; no code.
+
+#![tactic(auto)]

@@ -1,1 +1,3 @@
 // The VMD format: definitions and computed examples in specs/, no code.
+
+#![tactic(auto)]

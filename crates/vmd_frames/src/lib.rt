@@ -1,5 +1,7 @@
 // The frames of a file whose sections are found: the smallest and the largest, in one pass, and the places of property frames
 // for a scratch. Internal: callers see to it that the sections lie in the file.
+#![tactic(auto)]
+
 ghost use Rattle.std.specs.Prelude.{◌≡◌, ◌++◌, ◌+◌, ◌≤◌, length, drop};
 ghost use Rattle.vmd_format.specs.Opening.{places_needed};
 ghost use Rattle.vmd_laws.specs.Places.{frame_end, sixteenth_places, scan_frames, Reaches};
@@ -58,7 +60,7 @@ pub fn write_frame_places(file: &[u8], section: VmdSection, scratch: &mut [u64])
 
 // The smallest and the largest frame of a file, or of what a pass has seen of it: handed on from record to record and from
 // section to section.
-#[derive(Drop)]
+#[derive(Clone, Copy)]
 pub struct VmdFrames {
     pub smallest: u32,
     pub largest: u32,

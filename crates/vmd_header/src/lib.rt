@@ -1,4 +1,6 @@
 // The header of a file of either edition: where its model name stands, and where its sections begin (internal).
+#![tactic(auto)]
+
 ghost use Rattle.std.specs.Prelude.{◌≡◌, length};
 ghost use Rattle.vmd_format.specs.Answer.{map_answer};
 ghost use Rattle.vmd_format.specs.Take.{model_width};
@@ -13,14 +15,14 @@ use vmd_base::{
 };
 
 // What a header says of places: the field of the model name, and where the sections begin.
-#[derive(Drop)]
+#[derive(Clone, Copy)]
 pub struct VmdHeader {
     pub name: usize,
     pub width: usize,
     pub sections: usize,
 }
 
-#[derive(Drop)]
+#[derive(Clone, Copy)]
 pub enum HeaderAnswer {
     Refused(VmdRefusal),
     Read(VmdHeader),

@@ -1,6 +1,8 @@
 // The published jis0208 index, read in pieces: the presence table that it makes, or the first line at fault, and the text that
 // the program presence_table prints of either. Public: index_reader, read_index, index_words, write_words and write_message, which
 // ask nothing of their caller.
+#![tactic(auto)]
+
 ghost use Rattle.std.specs.Prelude.{◌≡◌, ◌+◌, ◌≤◌, cond, length};
 ghost use Rattle.vmd_bytes.specs.Slices.{splice};
 ghost use Rattle.vmd_bytes.specs.Written.{Wrote};
@@ -10,7 +12,7 @@ ghost use Rattle.vmd_index.specs.Steps.{with_digit, after_blanks, after_digits, 
 ghost use Rattle.vmd_index.specs.Output.{reason, message};
 
 // Why there is no table for a line.
-#[derive(Drop)]
+#[derive(Clone, Copy)]
 pub enum Cause {
     NoEntry,
     TooLarge,
@@ -18,7 +20,7 @@ pub enum Cause {
 }
 
 // What the end of a line finds.
-#[derive(Drop)]
+#[derive(Clone, Copy)]
 pub enum LineEnd {
     Nothing,
     Entry(u32),
@@ -26,7 +28,7 @@ pub enum LineEnd {
 }
 
 // What the bytes of a line are so far. The number is the pointer, or 11,280 for any that is no less.
-#[derive(Drop)]
+#[derive(Clone, Copy)]
 pub enum Phase {
     // Blanks only; these and a carriage return.
     Blank,
@@ -47,7 +49,7 @@ pub enum Phase {
 }
 
 // The table of the lines before, the number of the line, the smallest pointer that may come next, and the line so far.
-#[derive(Drop)]
+#[derive(Clone, Copy)]
 pub struct IndexReader {
     pub words: [u32; vmd_presence::WORDS],
     pub line: u64,
@@ -55,14 +57,14 @@ pub struct IndexReader {
     pub phase: Phase,
 }
 
-#[derive(Drop)]
+#[derive(Clone, Copy)]
 pub enum Outcome {
     Complete,
     Faulty(u64, Cause),
 }
 
 // What the whole index makes: the table, where the outcome is Complete, or the number of the line at fault.
-#[derive(Drop)]
+#[derive(Clone, Copy)]
 pub struct IndexRead {
     pub words: [u32; vmd_presence::WORDS],
     pub outcome: Outcome,

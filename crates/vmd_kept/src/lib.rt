@@ -1,5 +1,7 @@
 // How many records of a section tidying keeps, counted with no lent memory: passes over its records, each of which finds the
 // keys above a floor, as many as fit in a local array of places. Internal: callers see to the lengths.
+#![tactic(auto)]
+
 ghost use Rattle.std.specs.Prelude.{◌≡◌, List, [], ◌∷◌, ◌++◌, ℕ, ◌+◌, ◌≤◌, ◌<◌, ltb, length, get_or, take};
 ghost use Rattle.vmd_tracks.specs.Tracks.{lasts};
 ghost use Rattle.vmd_sort.specs.Order.{key, rest};
@@ -9,14 +11,14 @@ ghost use Rattle.vmd_kept.specs.Window.{above, between, Rising, Holds, Cut};
 use vmd_sort::VmdOrder;
 
 // How many records, and how many IK states they have together.
-#[derive(Drop)]
+#[derive(Clone, Copy)]
 pub struct VmdKept {
     pub records: u64,
     pub ik_states: u64,
 }
 
 // The first m places are held; the ceiling is a place and 1, or 0 for none.
-#[derive(Drop)]
+#[derive(Clone, Copy)]
 struct Held {
     m: usize,
     ceil: u64,

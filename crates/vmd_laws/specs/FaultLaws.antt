@@ -96,6 +96,7 @@ units_over (two {a} {b} {s} h r) u = omega (arith, fault_pair a b (s ++ u) h, un
 -- the fault of what is left, after what is passed over
 found_from : (s : List ℕ) → ((t : List ℕ) → length t < length s → FirstFault t (fault t)) → Starts s ⊎ (unit s ≡ 0) → FirstFault s (fault s)
 found_from s rest (inr e) = rw (fault_none s e) record { within = omega arith; before = none; stops = λ k. omega (arith, starts_unit k) }
+found_from [] rest (inl x) = elim x [ ]
 found_from (a ∷ s) rest (inl (a_single h)) =
     let f = rest s (omega arith) in
     rw (fault_single a s h) record { within = omega (arith, f.within); before = one h f.before; stops = f.stops }

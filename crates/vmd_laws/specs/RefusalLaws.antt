@@ -137,6 +137,7 @@ module _ (P : Refusal → Type 0) where
 -- ---- numbers that are among others
 
 pub among_front : {n : ℕ} (l r : List ℕ) → Among n l → Among n (l ++ r)
+among_front {n = n} [] r x = elim x [ ]
 among_front (a ∷ l) r here = here
 among_front (a ∷ l) r (there h) = there (among_front l r h)
 

@@ -1,1 +1,3 @@
 // The laws of the VMD format, in specs/, no code.
+
+#![tactic(auto)]

@@ -1,4 +1,6 @@
 // The line that vmd-list prints for a file, on slices.
+#![tactic(auto)]
+
 ghost use Rattle.std.specs.Prelude.{◌≡◌, ◌≤◌, length};
 ghost use Rattle.vmd_format.specs.Read.{lenient};
 ghost use Rattle.vmd_base.specs.Meaning.{manner_of};

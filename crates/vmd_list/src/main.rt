@@ -1,5 +1,7 @@
 // Prints one line for the take on standard input: its numbers of records, its smallest and its largest frame and the length of
 // its export, or why it is turned down.
+#![tactic(auto)]
+
 use libc::{STDIN_FILENO, STDOUT_FILENO};
 
 fn main() {

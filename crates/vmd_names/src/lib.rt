@@ -1,4 +1,6 @@
 // The test of a name's bytes. Internal, but for first_fault, which asks nothing of its caller.
+#![tactic(auto)]
+
 ghost use Rattle.std.specs.Prelude.{◌≡◌, cond, ◌||◌, ◌-◌, ◌≤◌, ◌<◌, length, drop, ltb};
 ghost use Rattle.vmd_format.specs.Bytes.{before_zero};
 ghost use Rattle.vmd_format.specs.Characters.{between};
@@ -10,7 +12,7 @@ ghost use Rattle.vmd_names.specs.Meaning.{check_of};
 use vmd_base::VmdRefusal;
 
 // What a check finds.
-#[derive(Drop)]
+#[derive(Clone, Copy)]
 pub enum Check {
     Passes,
     Fails(VmdRefusal),

@@ -1,6 +1,8 @@
 // The writing of a file, for every call that writes one: what it answers, how long a file is, the header, a count, and a
 // section from records of one file or two. Internal, but for the answer: callers see to the room. Every writer gives the place
 // after what it wrote, where the next one goes on.
+#![tactic(auto)]
+
 ghost use Rattle.std.specs.Prelude.{◌≡◌, [], ◌∷◌, ◌++◌, ◌+◌, ◌≤◌, length};
 ghost use Rattle.vmd_format.specs.Answer.{within};
 ghost use Rattle.vmd_format.specs.Bytes.{u32_bytes};
@@ -21,7 +23,7 @@ use vmd_records::{
 };
 
 // What a call that writes answers: a refusal, or how many bytes.
-#[derive(Drop)]
+#[derive(Clone, Copy)]
 pub enum VmdWritten {
     Refused(VmdRefusal),
     Bytes(u64),

@@ -1,5 +1,7 @@
 // Building a file from parts: a model name, name tables, record bytes and columns. Every part is checked before a byte is
 // written.
+#![tactic(auto)]
+
 ghost use Rattle.std.specs.Prelude.{◌≡◌, true, map, ◌+◌, ◌-◌, ◌*◌, ◌/◌, ◌≤◌, length};
 ghost use Rattle.vmd_format.specs.Read.{fixed, write_counted};
 ghost use Rattle.vmd_format.specs.Take.{property};

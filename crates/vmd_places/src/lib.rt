@@ -1,4 +1,6 @@
 // Where records, names and interpolation bytes stand in a file. Internal: callers see to the lengths where a contract asks it.
+#![tactic(auto)]
+
 ghost use Rattle.std.specs.Prelude.{◌≡◌, ◌+◌, ◌≤◌, leb, length, take, drop};
 ghost use Rattle.vmd_format.specs.Fetch.{record_place, next_place, walk_frames, frame_place, property_place};
 ghost use Rattle.vmd_laws.specs.PlacesLaws.{Holds};
@@ -9,7 +11,7 @@ ghost use Rattle.vmd_places.specs.Parts.{file_part, part_in, name_in, there};
 use vmd_base::{FRAMES_PER_PLACE, VmdPart, VmdRefusal, VmdSection};
 use vmd_records::{VmdParsedIkState, VmdParsedPropertyFrame};
 
-#[derive(Drop)]
+#[derive(Clone, Copy)]
 pub enum VmdPlace {
     Refused(VmdRefusal),
     At(usize),

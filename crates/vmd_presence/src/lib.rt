@@ -1,4 +1,6 @@
 // The presence table: which pointers the jis0208 index has (request h). Internal.
+#![tactic(auto)]
+
 ghost use Rattle.std.specs.Prelude.{◌≡◌, ◌<◌};
 ghost use Rattle.vmd_format.specs.Characters.{character};
 ghost use Rattle.vmd_presence.specs.Presence.{bit, Presence};

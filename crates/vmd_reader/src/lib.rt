@@ -1,5 +1,7 @@
 // Opening a take, and its records, names and interpolation bytes by number. Public: no call asks anything of its caller, and
 // each states its answer, and every byte lent, by an equation with a definition.
+#![tactic(auto)]
+
 ghost use Rattle.std.specs.Prelude.{◌≡◌, length};
 ghost use Rattle.vmd_format.specs.Answer.{given, map_answer};
 ghost use Rattle.vmd_format.specs.Records.{bone, morph, camera, light, self_shadow};
@@ -24,63 +26,63 @@ use vmd_records::{
 use vmd_scan::{ScanAnswer, VmdSections};
 
 // What opening gives: the sections' counts and places, the number of IK states, and the smallest and the largest frame.
-#[derive(Drop)]
+#[derive(Clone, Copy)]
 pub struct VmdOpening {
     pub sections: VmdSections,
     pub min_frame: u32,
     pub max_frame: u32,
 }
 
-#[derive(Drop)]
+#[derive(Clone, Copy)]
 pub enum VmdOpened {
     Refused(VmdRefusal),
     Opened(VmdOpening),
 }
 
-#[derive(Drop)]
+#[derive(Clone, Copy)]
 pub enum VmdBoneAnswer {
     Refused(VmdRefusal),
     Found(VmdParsedBoneFrame),
 }
 
-#[derive(Drop)]
+#[derive(Clone, Copy)]
 pub enum VmdMorphAnswer {
     Refused(VmdRefusal),
     Found(VmdParsedMorphFrame),
 }
 
-#[derive(Drop)]
+#[derive(Clone, Copy)]
 pub enum VmdCameraAnswer {
     Refused(VmdRefusal),
     Found(VmdParsedCameraFrame),
 }
 
-#[derive(Drop)]
+#[derive(Clone, Copy)]
 pub enum VmdLightAnswer {
     Refused(VmdRefusal),
     Found(VmdParsedLightFrame),
 }
 
-#[derive(Drop)]
+#[derive(Clone, Copy)]
 pub enum VmdLightBitsAnswer {
     Refused(VmdRefusal),
     Found(VmdParsedLightBits),
 }
 
-#[derive(Drop)]
+#[derive(Clone, Copy)]
 pub enum VmdSelfShadowAnswer {
     Refused(VmdRefusal),
     Found(VmdParsedSelfShadowFrame),
 }
 
-#[derive(Drop)]
+#[derive(Clone, Copy)]
 pub enum VmdPropertyAnswer {
     Refused(VmdRefusal),
     Found(VmdParsedPropertyFrame),
 }
 
 // A property frame, and the place of the next one.
-#[derive(Drop)]
+#[derive(Clone, Copy)]
 pub enum VmdPropertyStep {
     Refused(VmdRefusal),
     Found {
@@ -89,7 +91,7 @@ pub enum VmdPropertyStep {
     },
 }
 
-#[derive(Drop)]
+#[derive(Clone, Copy)]
 pub enum VmdIkStateAnswer {
     Refused(VmdRefusal),
     Found(VmdParsedIkState),

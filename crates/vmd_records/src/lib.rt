@@ -1,5 +1,7 @@
 // The records of a file as values, each with its size and a constructor from its bytes. A float is its 32 bits, but for the
 // light with six floats. Names and interpolation bytes are parts of the file, and not here.
+#![tactic(auto)]
+
 ghost use Rattle.std.specs.Prelude.{◌≡◌, ◌≤◌, ◌<◌, get_or, drop};
 ghost use Rattle.std.specs.Float.{binary32};
 ghost use Rattle.std.specs.Float.Ieee.{of_bits};
@@ -48,7 +50,7 @@ fn float_at(bytes: &[u8], at: usize) -> f32
 
 // ---- records
 
-#[derive(Drop)]
+#[derive(Clone, Copy)]
 pub struct VmdParsedBoneFrame {
     pub frame: u32,
     pub translation_x: u32,
@@ -91,7 +93,7 @@ impl VmdParsedBoneFrame {
     }
 }
 
-#[derive(Drop)]
+#[derive(Clone, Copy)]
 pub struct VmdParsedMorphFrame {
     pub frame: u32,
     pub weight: u32,
@@ -116,7 +118,7 @@ impl VmdParsedMorphFrame {
     }
 }
 
-#[derive(Drop)]
+#[derive(Clone, Copy)]
 pub struct VmdParsedCameraFrame {
     pub frame: u32,
     pub distance: u32,
@@ -162,7 +164,7 @@ impl VmdParsedCameraFrame {
     }
 }
 
-#[derive(Drop)]
+#[derive(Clone, Copy)]
 pub struct VmdParsedLightFrame {
     pub frame: u32,
     pub color_r: f32,
@@ -194,7 +196,7 @@ impl VmdParsedLightFrame {
 }
 
 // A light by its exact bits: a float has one NaN, its bits have many.
-#[derive(Drop)]
+#[derive(Clone, Copy)]
 pub struct VmdParsedLightBits {
     pub frame: u32,
     pub color_r: u32,
@@ -223,7 +225,7 @@ impl VmdParsedLightBits {
     }
 }
 
-#[derive(Drop)]
+#[derive(Clone, Copy)]
 pub struct VmdParsedSelfShadowFrame {
     pub frame: u32,
     pub mode: u8,
@@ -247,7 +249,7 @@ impl VmdParsedSelfShadowFrame {
 }
 
 // A property frame without its IK states, which stand after its SIZE bytes.
-#[derive(Drop)]
+#[derive(Clone, Copy)]
 pub struct VmdParsedPropertyFrame {
     pub frame: u32,
     pub visible: bool,
@@ -272,7 +274,7 @@ impl VmdParsedPropertyFrame {
     }
 }
 
-#[derive(Drop)]
+#[derive(Clone, Copy)]
 pub struct VmdParsedIkState {
     pub enabled: bool,
 }
@@ -296,7 +298,7 @@ impl VmdParsedIkState {
 // ---- kinds
 
 // The kinds of records that have one size; property frames, with their IK states, have none.
-#[derive(Drop)]
+#[derive(Clone, Copy)]
 pub enum VmdKind {
     Bone,
     Morph,

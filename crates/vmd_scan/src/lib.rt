@@ -1,5 +1,7 @@
 // Finding the sections of a file by places: the cursor, the section counts and the property frames. Internal: callers see to
 // the lengths where a contract asks it.
+#![tactic(auto)]
+
 ghost use Rattle.std.specs.Prelude.{◌≡◌, ◌+◌, ◌*◌, ◌-◌, ◌≤◌, leb, length};
 ghost use Rattle.vmd_format.specs.Answer.{given};
 ghost use Rattle.vmd_format.specs.Fetch.{next_frame};
@@ -17,7 +19,7 @@ use vmd_records::{
 
 // ---- types
 
-#[derive(Drop)]
+#[derive(Clone, Copy)]
 pub struct VmdSections {
     pub bones: VmdSection,
     pub morphs: VmdSection,
@@ -29,58 +31,58 @@ pub struct VmdSections {
 }
 
 // What an oversized camera, light or self-shadow count does.
-#[derive(Drop)]
+#[derive(Clone, Copy)]
 pub enum Oversized {
     Refused(VmdRefusal),
     Emptied,
 }
 
 // What bytes after the last property frame do.
-#[derive(Drop)]
+#[derive(Clone, Copy)]
 pub enum BytesOver {
     Ignored,
     Refused(VmdRefusal),
 }
 
 // The position of a reader; the bytes stand beside it.
-#[derive(Drop)]
+#[derive(Clone, Copy)]
 pub struct ByteReader {
     pub pos: usize,
 }
 
-#[derive(Drop)]
+#[derive(Clone, Copy)]
 pub enum NumberAnswer {
     Refused(VmdRefusal),
     Value(u32, ByteReader),
 }
 
-#[derive(Drop)]
+#[derive(Clone, Copy)]
 pub enum OptionalNumber {
     Refused(VmdRefusal),
     Nothing,
     Value(u32, ByteReader),
 }
 
-#[derive(Drop)]
+#[derive(Clone, Copy)]
 pub enum SectionAnswer {
     Refused(VmdRefusal),
     Found(VmdSection, ByteReader),
 }
 
-#[derive(Drop)]
+#[derive(Clone, Copy)]
 pub enum WalkAnswer {
     Refused(VmdRefusal),
     Walked { next: usize, ik_states: u64 },
 }
 
-#[derive(Drop)]
+#[derive(Clone, Copy)]
 pub enum ScanAnswer {
     Refused(VmdRefusal),
     Scanned(VmdSections),
 }
 
 // The first three sections, and the reader after them.
-#[derive(Drop)]
+#[derive(Clone, Copy)]
 struct FrontSections {
     bones: VmdSection,
     morphs: VmdSection,
@@ -88,21 +90,21 @@ struct FrontSections {
     next: ByteReader,
 }
 
-#[derive(Drop)]
+#[derive(Clone, Copy)]
 enum FrontAnswer {
     Refused(VmdRefusal),
     Found(FrontSections),
 }
 
 // The last three sections.
-#[derive(Drop)]
+#[derive(Clone, Copy)]
 struct BackSections {
     lights: VmdSection,
     self_shadows: VmdSection,
     properties: VmdSection,
 }
 
-#[derive(Drop)]
+#[derive(Clone, Copy)]
 enum BackAnswer {
     Refused(VmdRefusal),
     Found(BackSections),

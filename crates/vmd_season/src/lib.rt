@@ -1,5 +1,7 @@
 // Figures over takes lent one after another. A season is a value that goes in and comes back with one take more. Public: the
 // calls of VmdSeason ask nothing of their caller; any numbers in a season mean something.
+#![tactic(auto)]
+
 ghost use Rattle.std.specs.Prelude.{◌≡◌, true, ◌&&◌, map, ◌+◌, ◌*◌, ◌≤◌, min, length};
 ghost use Rattle.vmd_format.specs.Read.{lenient};
 ghost use Rattle.vmd_laws.specs.ExportLaws.{take_in, Scanned};
@@ -14,14 +16,14 @@ use vmd_records::{VmdParsedBoneFrame, VmdParsedMorphFrame};
 use vmd_scan::{ScanAnswer, VmdSections};
 
 // The records of a section over all takes, and the smallest and largest number of them in one.
-#[derive(Drop)]
+#[derive(Clone, Copy)]
 pub struct VmdSectionFigures {
     pub total: u64,
     pub smallest: u32,
     pub largest: u32,
 }
 
-#[derive(Drop)]
+#[derive(Clone, Copy)]
 pub struct VmdSeason {
     pub bones: VmdSectionFigures,
     pub morphs: VmdSectionFigures,
@@ -40,14 +42,14 @@ pub struct VmdSeason {
 }
 
 // Records per accepted take.
-#[derive(Drop)]
+#[derive(Clone, Copy)]
 pub struct VmdMean {
     pub quotient: u64,
     pub remainder: u64,
 }
 
 // What a take adds. Internal: no call takes or gives one.
-#[derive(Drop)]
+#[derive(Clone, Copy)]
 pub struct VmdTakeFigures {
     pub bones: u32,
     pub morphs: u32,

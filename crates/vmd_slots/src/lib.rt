@@ -1,5 +1,7 @@
 // The slots of the library for C: what the calls' answers put into them, and the openings and seasons that they say
 // (internal). Every function states what it returns and leaves by equations with definitions.
+#![tactic(auto)]
+
 ghost use Rattle.std.specs.Prelude.{◌≡◌, [], ◌∷◌};
 ghost use Rattle.vmd_format.specs.Bytes.{flag_byte};
 ghost use Rattle.vmd_reader.specs.Meaning.{opening_is};

@@ -1,5 +1,7 @@
 // Parts out of a take: what the builder takes, from an accepted file. Public: the pub calls ask nothing of their caller. Every
 // buffer is tested before the first element is written.
+#![tactic(auto)]
+
 ghost use Rattle.std.specs.Prelude.{◌≡◌, true, ◌&&◌, ◌+◌, ◌*◌, ◌≤◌, leb, length};
 ghost use Rattle.vmd_format.specs.Read.{strict};
 ghost use Rattle.vmd_laws.specs.ScanLaws.{ExtentWithin};
@@ -22,7 +24,7 @@ use vmd_records::{
 use vmd_scan::{ScanAnswer, VmdSections};
 
 // How many names a table has, and how many bytes they are together.
-#[derive(Drop)]
+#[derive(Clone, Copy)]
 pub struct VmdTableSizes {
     pub bone_names: u64,
     pub bone_name_bytes: u64,
@@ -30,7 +32,7 @@ pub struct VmdTableSizes {
     pub morph_name_bytes: u64,
 }
 
-#[derive(Drop)]
+#[derive(Clone, Copy)]
 pub enum VmdSplit {
     Refused(VmdRefusal),
     Tables(VmdTableSizes),

@@ -1,6 +1,8 @@
 // A name table out of a section: the distinct names of its records, told apart byte for byte, in order of first appearance, and
 // each record's index. The index column and a second one of the same length serve as work space. Internal: callers see to the
 // lengths.
+#![tactic(auto)]
+
 ghost use Rattle.std.specs.Prelude.{◌≡◌, ◌+◌, ◌-◌, ◌*◌, ◌≤◌, ◌<◌, length, get_or};
 ghost use Rattle.vmd_bytes.specs.Slices.{splice};
 ghost use Rattle.vmd_keys.specs.Names.{name_in, names_in, whole, distinct};

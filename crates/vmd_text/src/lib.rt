@@ -1,4 +1,6 @@
 // Text that programs print: numbers in decimal, and words. Internal: callers see to the lengths.
+#![tactic(auto)]
+
 ghost use Rattle.std.specs.Prelude.{◌≡◌, ◌+◌, ◌*◌, ◌%◌, ◌≤◌, length};
 ghost use Rattle.vmd_bytes.specs.Written.{Room, Wrote};
 ghost use Rattle.vmd_text.specs.Text.{decimal, number_lines};

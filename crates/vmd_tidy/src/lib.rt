@@ -1,5 +1,7 @@
 // Tidying a take: each track sorted by frame, and of each frame only the last record in file order. Public: the pub calls ask
 // nothing of their caller, and each states its answer, and every byte and place lent, by an equation with a definition.
+#![tactic(auto)]
+
 ghost use Rattle.std.specs.Prelude.{◌≡◌, ◌≤◌, max, leb, length};
 ghost use Rattle.vmd_format.specs.Answer.{map_answer, left};
 ghost use Rattle.vmd_format.specs.Read.{strict};
@@ -21,7 +23,7 @@ use vmd_records::VmdKind;
 use vmd_scan::{ScanAnswer, VmdSections};
 
 // How many records each section has.
-#[derive(Drop)]
+#[derive(Clone, Copy)]
 pub struct VmdCounts {
     pub bones: u32,
     pub morphs: u32,
@@ -32,14 +34,14 @@ pub struct VmdCounts {
 }
 
 // A take that was tidied: the bytes of its file, and how many records of each section it keeps and how many were dropped.
-#[derive(Drop)]
+#[derive(Clone, Copy)]
 pub struct VmdTidied {
     pub bytes: u64,
     pub kept: VmdCounts,
     pub dropped: VmdCounts,
 }
 
-#[derive(Drop)]
+#[derive(Clone, Copy)]
 pub enum VmdTidyAnswer {
     Refused(VmdRefusal),
     Tidied(VmdTidied),
@@ -126,7 +128,7 @@ fn tidied_fits(limit: usize, s: &[u8], x: VmdSections) -> bool
 // ---- the sections written
 
 // Where bones, morphs and cameras end, and how many there are.
-#[derive(Drop)]
+#[derive(Clone, Copy)]
 struct VmdFront {
     end: usize,
     bones: u32,
@@ -150,7 +152,7 @@ fn write_front(out: &mut [u8], to: usize, a: &mut [u64], s: &[u8], x: VmdSection
 }
 
 // The same of lights, self-shadows and properties.
-#[derive(Drop)]
+#[derive(Clone, Copy)]
 struct VmdBack {
     end: usize,
     lights: u32,
@@ -233,7 +235,7 @@ fn tidy_scanned(out: &mut [u8], scratch: &mut [u64], s: &[u8], x: VmdSections) -
 // ---- how long the output has to be
 
 // How many bones, morphs and cameras are kept.
-#[derive(Drop)]
+#[derive(Clone, Copy)]
 struct VmdFrontKept {
     bones: u32,
     morphs: u32,
@@ -252,7 +254,7 @@ fn keep_front(a: &mut [u64], s: &[u8], x: VmdSections) -> VmdFrontKept
 }
 
 // How many lights, self-shadows, properties and IK states are kept.
-#[derive(Drop)]
+#[derive(Clone, Copy)]
 struct VmdBackKept {
     lights: u32,
     self_shadows: u32,

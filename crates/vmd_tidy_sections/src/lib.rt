@@ -1,5 +1,7 @@
 // Sections tidied: where the records stand that are kept, in the places of a lent scratch, and these records written. Internal:
 // callers see to the lengths.
+#![tactic(auto)]
+
 ghost use Rattle.std.specs.Prelude.{◌≡◌, ◌++◌, ℕ, ◌+◌, ◌≤◌, ◌<◌, length, get_or, take, drop, replicate};
 ghost use Rattle.vmd_format.specs.Read.{fixed, write_all, write_counted};
 ghost use Rattle.vmd_laws.specs.ReadLaws.{All};
@@ -139,7 +141,7 @@ pub fn tidy_properties(a: &mut [u64], s: &[u8], x: VmdSection) -> usize
 }
 
 // Where a section ends, and how many records it has.
-#[derive(Drop)]
+#[derive(Clone, Copy)]
 pub struct VmdTidiedSection {
     pub end: usize,
     pub kept: u32,
@@ -222,7 +224,7 @@ pub fn keep_records(a: &mut [u64], s: &[u8], kind: VmdKind, x: VmdSection) -> u3
 }
 
 // How many property frames, and how many IK states they have together.
-#[derive(Drop)]
+#[derive(Clone, Copy)]
 pub struct VmdKeptFrames {
     pub frames: u32,
     pub ik_states: u64,

@@ -1,1 +1,3 @@
 // What the tracks of a section are, and what tidying leaves of them: definitions and laws, no code.
+
+#![tactic(auto)]

@@ -1,4 +1,6 @@
 // Property frames and their IK states, read from a file and written in canonical form. Internal: callers see to the room.
+#![tactic(auto)]
+
 ghost use Rattle.std.specs.Prelude.{◌≡◌, ◌+◌, ◌-◌, ◌*◌, ◌≤◌, length, drop};
 ghost use Rattle.vmd_format.specs.Records.{ik_state};
 ghost use Rattle.vmd_format.specs.Read.{table, write_all};

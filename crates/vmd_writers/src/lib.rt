@@ -1,6 +1,8 @@
 // The writers of records: each reads records of a file and writes their canonical bytes, names up to their first zero and then
 // zeros, flags as 0 or 1, everything else as it is. Internal: callers see to the room. What writes records gives the place after
 // them, where the next one goes on.
+#![tactic(auto)]
+
 ghost use Rattle.std.specs.Prelude.{◌≡◌, ◌+◌, ◌-◌, ◌*◌, ◌≤◌, length, drop};
 ghost use Rattle.vmd_format.specs.Records.{bone, morph, camera, light, self_shadow};
 ghost use Rattle.vmd_format.specs.Read.{table, write_all};
