@@ -1,0 +1,11 @@
+-- `vmd_c::vmd_bone_name` meets its contract. Assumes nothing.
+use mathlib.Core.Path.{ap, ◌∙◌}
+use Rattle.vmd_format.specs.Records.{bone}
+use Rattle.vmd_slots.specs.Meaning.{part_words}
+use Rattle.vmd_slots.proofs.Laws.{field_part_at}
+use Rattle.vmd_c.proofs.vmd_bone_name.Goals as goal
+
+pub returns : goal.returns
+returns c =
+    let n = c.before in
+    c.part_words.ensures ∙ ap part_words (field_part_at bone 111 (λ x. x.name) 0 (λ x. x.bones) _ _ n.opening_of.ensures n.bone_name_part.ensures)

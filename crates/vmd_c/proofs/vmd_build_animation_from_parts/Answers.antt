@@ -1,0 +1,9 @@
+-- `vmd_c::vmd_build_animation_from_parts` meets its contract. Assumes nothing.
+use Rattle.vmd_slots.proofs.Laws.{handed}
+use Rattle.vmd_c.proofs.vmd_build_animation_from_parts.Goals as goal
+
+pub returns : goal.returns
+returns c =
+    let w = c.build_vmd_animation_from_parts-answer.ensures in
+    let r = handed _ _ c.report_written.ensures w.0 in
+    (r.0, r.1, w.1)

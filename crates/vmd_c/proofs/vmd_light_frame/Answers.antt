@@ -1,0 +1,25 @@
+-- `vmd_c::vmd_light_frame` meets its contract. Assumes nothing.
+use mathlib.Core.Path.{ap}
+use Rattle.vmd_format.specs.Records.{light}
+use Rattle.vmd_records.specs.Fields.{light_floats}
+use Rattle.vmd_reader.specs.Meaning.{light_answer}
+use Rattle.vmd_slots.specs.Meaning.{light_values}
+use Rattle.vmd_slots.proofs.Laws.{fetch_at, status_declined, status_given, slot_declined, slot_filled, told, arrived}
+use Rattle.vmd_c.proofs.vmd_light_frame.Goals as goal
+
+pub returns-in-Refused : goal.returns-in-Refused
+returns-in-Refused c =
+    let t = c.before.before in
+    let a = t.before.before in
+    let e = told light_floats (fetch_at light (λ x. x.lights) _ _ a.opening_of.ensures)
+    a.light_frame.ensures (ap light_answer t.k-1.given.1) in
+    (status_declined e c.number.ensures, slot_declined _ _ e, slot_declined _ _ e)
+
+pub returns-in-Found : goal.returns-in-Found
+unfolding light_values light_floats
+returns-in-Found c =
+    let t = c.before.before in
+    let a = t.before.before in
+    let r = arrived light_floats (fetch_at light (λ x. x.lights) _ _ a.opening_of.ensures)
+    a.light_frame.ensures (ap light_answer t.x-1.given.1) in
+    (status_given r.is, slot_filled _ _ r (λ v z. rw z), slot_filled _ _ r (λ v z. rw z))

@@ -1,0 +1,23 @@
+-- `vmd_c::vmd_property_frame_at` meets its contract. Assumes nothing.
+use mathlib.Core.Path.{refl, ap}
+use Rattle.vmd_records.specs.Fields.{property_fields}
+use Rattle.vmd_reader.specs.Meaning.{step_fields, step_answer}
+use Rattle.vmd_slots.specs.Meaning.{property_words}
+use Rattle.vmd_slots.proofs.Laws.{status_declined, status_given, slot_declined, slot_filled, told, arrived}
+use Rattle.vmd_c.proofs.vmd_property_frame_at.Goals as goal
+
+pub returns-in-Refused : goal.returns-in-Refused
+returns-in-Refused c =
+    let t = c.before.before in
+    let e = told step_fields refl t.property_frame_at.ensures (ap step_answer t.k-1.given.1) in
+    (status_declined e c.number.ensures, slot_declined _ _ e, slot_declined _ _ e)
+
+pub returns-in-Found : goal.returns-in-Found
+unfolding property_words property_fields
+returns-in-Found c =
+    let t = c.before.before in
+    let r = arrived step_fields refl t.property_frame_at.ensures (ap step_answer t.frame-1.given.1) in (
+      status_given r.is,
+      slot_filled _ _ r (λ v z. rw (c.property_words.ensures, ap (λ p. p.0) z)),
+      slot_filled _ _ r (λ v z. ap (λ p. p.1) z),
+    )

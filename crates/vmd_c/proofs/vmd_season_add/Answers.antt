@@ -1,0 +1,14 @@
+-- `vmd_c::vmd_season_add` meets its contract. Assumes nothing.
+use mathlib.Core.Path.{ap, ◌∙◌}
+use Rattle.vmd_season.specs.Season.{with_file}
+use Rattle.vmd_format.specs.Read.{lenient}
+use Rattle.vmd_slots.specs.Meaning.{season_counts, season_figures}
+use Rattle.vmd_c.proofs.vmd_season_add.Goals as goal
+
+pub returns : goal.returns
+returns c =
+    let a = c.before.before.before in
+    let s = a.before in
+    let b = s.before.before.before.before in
+    let e = a.add-next.ensures ∙ ap (λ z. with_file lenient z b.args.file.now) s.season_of.ensures in
+    (c.report_season.ensures.0 ∙ ap season_counts e, c.report_season.ensures.1 ∙ ap season_figures e)

@@ -1,0 +1,13 @@
+-- `vmd_c::vmd_season_mean` meets its contract. Assumes nothing.
+use mathlib.Core.Path.{ap, ◌∙◌}
+use Rattle.vmd_season.specs.Season.{mean}
+use Rattle.vmd_c.specs.Seasons.{mean_without}
+use Rattle.vmd_slots.specs.Meaning.{mean_words}
+use Rattle.vmd_c.proofs.vmd_season_mean.Goals as goal
+
+pub returns : goal.returns
+unfolding mean_words
+returns c =
+    let m = c.before in
+    let s = m.before in
+    ap mean_words (m.mean-m.ensures ∙ ap mean s.season_of.ensures ∙ mean_without _ _)

@@ -1,0 +1,22 @@
+use Prim.Native.Nat.{◌-◌}
+use mathlib.Core.Path.{ap}
+use native.Mathlib.Omega.{arith}
+use Rattle.vmd_names.specs.Meaning.{check_of}
+use Rattle.vmd_check_columns.proofs.Columns.{turning_start, turning_fails, turning_turn, turning_end}
+use Rattle.vmd_check_columns.proofs.bones_check.Goals as goal
+
+pub loop-i-init : goal.loop-i-init
+loop-i-init c = turning_start
+
+pub returns-in-Fails : goal.returns-in-Fails
+returns-in-Fails c =
+    let r = c.before.before.before in
+    turning_fails r.loop-i.invariant (omega arith) r.bone_check.ensures (ap check_of c.k-1.given.1)
+
+pub loop-i-preserved : goal.loop-i-preserved
+loop-i-preserved c =
+    let r = c.before.before in
+    turning_turn r.loop-i.invariant (omega arith) r.bone_check.ensures (ap check_of c.enum_told-1.given.1)
+
+pub returns : goal.returns
+returns c = turning_end c.loop-i.invariant c.loop-i-test.false

@@ -1,0 +1,29 @@
+use mathlib.Core.Path.{ap}
+use native.Mathlib.Omega.{arith}
+use Rattle.vmd_format.specs.Parts.{ik_check}
+use Rattle.vmd_laws.specs.SizedLaws.{ik_state_sized}
+use Rattle.vmd_names.specs.Meaning.{check_of}
+use Rattle.vmd_check_records.proofs.Records.{checking_start, checking_lies, checking_fails, checking_turn, checking_end}
+use Rattle.vmd_check_records.proofs.ik_states_check.Goals as goal
+
+pub loop-left-init : goal.loop-left-init
+loop-left-init c = checking_start (omega arith)
+
+pub ik_check-requires : goal.ik_check-requires
+ik_check-requires c κs = (c.requires.0, checking_lies ik_state_sized c.loop-left.invariant (omega arith))
+
+pub returns-in-Fails : goal.returns-in-Fails
+returns-in-Fails c =
+    let r = c.before.before.before in
+    checking_fails ik_state_sized r.loop-left.invariant (omega arith) r.ik_check.ensures (ap check_of c.k-1.given.1)
+
+pub overflow_add-at : goal.overflow_add-at
+overflow_add-at c = omega (arith, checking_lies ik_state_sized c.loop-left.invariant (omega arith))
+
+pub loop-left-preserved : goal.loop-left-preserved
+loop-left-preserved c =
+    let r = c.before.before in
+    checking_turn ik_state_sized r.loop-left.invariant (omega arith) r.ik_check.ensures (ap check_of c.enum_told-1.given.1)
+
+pub returns : goal.returns
+returns c = checking_end ik_state_sized c.loop-left.invariant (omega arith)

@@ -1,0 +1,29 @@
+use mathlib.Core.Path.{ap, ◌∙◌}
+use native.Mathlib.Omega.{arith}
+use Rattle.vmd_format.specs.Parts.{light_check}
+use Rattle.vmd_laws.specs.SizedLaws.{light_sized}
+use Rattle.vmd_names.specs.Meaning.{check_of}
+use Rattle.vmd_check_records.proofs.Records.{records_start, records_are, checking_lies, checking_fails, checking_turn, checking_end}
+use Rattle.vmd_check_records.proofs.lights_check.Goals as goal
+
+pub loop-left-init : goal.loop-left-init
+loop-left-init c = records_start
+
+pub light_check-requires : goal.light_check-requires
+light_check-requires c κs = checking_lies light_sized c.loop-left.invariant (omega arith)
+
+pub returns-in-Fails : goal.returns-in-Fails
+returns-in-Fails c =
+    let r = c.before.before.before in
+    checking_fails light_sized r.loop-left.invariant (omega arith) r.light_check.ensures (ap check_of c.k-1.given.1) ∙ records_are _ _ light_sized
+
+pub overflow_add-at : goal.overflow_add-at
+overflow_add-at c = omega (arith, checking_lies light_sized c.loop-left.invariant (omega arith))
+
+pub loop-left-preserved : goal.loop-left-preserved
+loop-left-preserved c =
+    let r = c.before.before in
+    checking_turn light_sized r.loop-left.invariant (omega arith) r.light_check.ensures (ap check_of c.enum_told-1.given.1)
+
+pub returns : goal.returns
+returns c = checking_end light_sized c.loop-left.invariant (omega arith) ∙ records_are _ _ light_sized

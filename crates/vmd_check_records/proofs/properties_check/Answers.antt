@@ -1,0 +1,40 @@
+use mathlib.Core.Path.{ap}
+use native.Mathlib.Omega.{arith}
+use Rattle.vmd_format.specs.Fetch.{next_frame}
+use Rattle.vmd_names.specs.Meaning.{check_of}
+use Rattle.vmd_check_records.proofs.Properties.{framing_start, framing_lies, framing_fails, framing_turn, framing_end}
+use Rattle.vmd_check_records.proofs.properties_check.Goals as goal
+
+pub loop-left-init : goal.loop-left-init
+loop-left-init c = framing_start c.requires.1 c.property_count-left.ensures
+
+pub overflow_add-at : goal.overflow_add-at
+overflow_add-at c = omega (arith, framing_lies c.loop-left.invariant (omega arith))
+
+pub read_u32_le-states-requires : goal.read_u32_le-states-requires
+read_u32_le-states-requires c κs = omega (arith, framing_lies c.loop-left.invariant (omega arith))
+
+pub overflow_add-at-in-loop-left : goal.overflow_add-at-in-loop-left
+overflow_add-at-in-loop-left c = omega (arith, framing_lies c.loop-left.invariant (omega arith))
+
+pub ik_states_check-requires : goal.ik_states_check-requires
+ik_states_check-requires c κs =
+    (c.requires.0, omega (arith, framing_lies c.loop-left.invariant (omega arith), c.read_u32_le-states.ensures))
+
+pub returns-in-Fails : goal.returns-in-Fails
+returns-in-Fails c =
+    let i = c.before.before.before in
+    framing_fails i.loop-left.invariant (omega arith) i.read_u32_le-states.ensures i.ik_states_check.ensures (ap check_of c.k-1.given.1)
+
+pub next_property_frame-at-requires : goal.next_property_frame-at-requires
+unfolding next_frame
+next_property_frame-at-requires c κs = framing_lies c.loop-left.invariant (omega arith)
+
+pub loop-left-preserved : goal.loop-left-preserved
+loop-left-preserved c =
+    let i = c.before.before.before in
+    framing_turn i.loop-left.invariant (omega arith) i.read_u32_le-states.ensures i.ik_states_check.ensures
+    (ap check_of c.enum_told-1.given.1) c.next_property_frame-at.ensures
+
+pub returns : goal.returns
+returns c = framing_end c.loop-left.invariant (omega arith)

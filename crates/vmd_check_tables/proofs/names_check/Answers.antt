@@ -1,0 +1,35 @@
+use mathlib.Core.Path.{ap}
+use Prim.Native.Nat.{◌-◌}
+use native.Mathlib.Omega.{arith}
+use Rattle.vmd_format.specs.Parts.{name_check}
+use Rattle.vmd_names.specs.Meaning.{check_of}
+use Rattle.vmd_check_tables.proofs.Tables.{naming_start, naming_fits, naming_fails, naming_turn, naming_end}
+use Rattle.vmd_check_tables.proofs.names_check.Goals as goal
+
+pub loop-i-init : goal.loop-i-init
+loop-i-init c = naming_start c.requires.1
+
+pub overflow_cast-end : goal.overflow_cast-end
+overflow_cast-end c = omega (arith, c.shared_slice_known-in-loop-i-1.given c.loop-i.i)
+
+pub slice_bounds-name-count : goal.slice_bounds-name-count
+slice_bounds-name-count c = omega (arith, naming_fits c.loop-i.invariant (omega arith))
+
+pub slice_bounds-name-start : goal.slice_bounds-name-start
+slice_bounds-name-start c = omega (arith, naming_fits c.loop-i.invariant (omega arith))
+
+pub slice_bounds-name-end : goal.slice_bounds-name-end
+slice_bounds-name-end c = omega (arith, naming_fits c.loop-i.invariant (omega arith))
+
+pub returns-in-Fails : goal.returns-in-Fails
+returns-in-Fails c =
+    let n = c.before.before.before in
+    naming_fails n.loop-i.invariant (omega arith) n.name_check.ensures (ap check_of c.k-1.given.1)
+
+pub loop-i-preserved : goal.loop-i-preserved
+loop-i-preserved c =
+    let n = c.before.before in
+    naming_turn n.loop-i.invariant (omega arith) n.name_check.ensures (ap check_of c.enum_told-1.given.1)
+
+pub returns : goal.returns
+returns c = naming_end c.loop-i.invariant c.loop-i-test.false

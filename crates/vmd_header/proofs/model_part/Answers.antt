@@ -1,0 +1,21 @@
+-- `vmd_header::model_part` meets its contract. Assumes nothing.
+use mathlib.Core.Path.{sym, ap, ◌∙◌}
+use Rattle.vmd_places.specs.Parts.{name_in}
+use Rattle.vmd_header.specs.Meaning.{header_answer}
+use Rattle.vmd_header.proofs.Laws.{name_begins, header_headed, no_part}
+use Rattle.vmd_header.proofs.model_part.Goals as goal
+
+pub name_at-requires : goal.name_at-requires
+name_at-requires c κs =
+    let t = c.before in
+    (header_headed _ _ (sym t.read_header.ensures ∙ ap header_answer t.header-1.given.1)).name-ends
+
+pub returns-in-Refused : goal.returns-in-Refused
+returns-in-Refused c = no_part _ _ (sym c.read_header.ensures ∙ ap header_answer c.enum_told-1.given.1)
+
+pub returns-in-Read : goal.returns-in-Read
+unfolding name_in
+returns-in-Read c =
+    let t = c.before.before in
+    let e = sym t.read_header.ensures ∙ ap header_answer t.header-1.given.1 in
+    rw (← (header_headed _ _ e).named, ← name_begins _ _ e) c.name_at.ensures

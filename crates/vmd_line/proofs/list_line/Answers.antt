@@ -1,0 +1,6 @@
+-- `vmd_line::list_line` meets its contract. Assumes nothing.
+use native.Mathlib.Omega.{arith}
+use Rattle.vmd_line.proofs.list_line.Goals as goal
+
+pub returns : goal.returns
+returns c = let w = c.write_line.ensures in (w.0.holds, (omega (arith, w.0.ends), w.1))

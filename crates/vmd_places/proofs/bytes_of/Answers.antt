@@ -1,0 +1,25 @@
+-- `vmd_places::bytes_of` meets its contract. Assumes nothing.
+use mathlib.Core.Path.{refl}
+use native.Mathlib.Omega.{arith}
+use Rattle.vmd_format.specs.Answer.{map_answer}
+use Rattle.vmd_format.specs.Fetch.{or_empty}
+use Rattle.vmd_places.specs.Parts.{part_in, there}
+use Rattle.vmd_places.proofs.Parts.{bytes_length}
+use Rattle.vmd_places.proofs.bytes_of.Goals as goal
+
+pub overflow_add-at : goal.overflow_add-at
+overflow_add-at c =
+    let t = c.before in
+    omega (arith, rw t.place-1.given.1 at t.requires)
+
+pub returns-in-Refused : goal.returns-in-Refused
+unfolding part_in
+returns-in-Refused c = rw c.enum_told-1.given.1 refl
+
+pub returns-in-At : goal.returns-in-At
+unfolding part_in there map_answer or_empty
+returns-in-At c =
+    let t = c.before.before in
+    let s = t.before.before.before in
+    let h = rw t.place-1.given.1 at s.requires in
+    rw (t.place-1.given.1, bytes_length s.args.file.now _ s.args.n h) c.file_part.ensures

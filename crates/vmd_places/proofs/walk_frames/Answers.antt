@@ -1,0 +1,25 @@
+use Prim.Native.Nat.{◌-◌}
+use mathlib.Core.Path.{sym, ap, ◌∙◌}
+use native.Mathlib.Nat.{sub-zero}
+use native.Mathlib.Omega.{arith}
+use Rattle.vmd_places.specs.Meaning.{place_answer}
+use Rattle.vmd_places.proofs.Places.{walk_done, walk_refused, walk_step}
+use Rattle.vmd_places.proofs.walk_frames.Goals as goal
+
+pub loop-i-init : goal.loop-i-init
+loop-i-init c = (omega arith, rw sub-zero)
+
+pub returns-in-Refused : goal.returns-in-Refused
+returns-in-Refused c =
+    let t = c.before in
+    let w = t.before.before in
+    sym (walk_refused _ _ _ _ (omega arith) _ (sym w.next_place.ensures ∙ ap place_answer t.k-1.given.1)) ∙ w.loop-i.invariant.1
+
+pub loop-i-preserved : goal.loop-i-preserved
+loop-i-preserved c =
+    let t = c.before in
+    let w = t.before.before in
+    (omega arith, sym (walk_step _ _ _ _ (omega arith) _ (sym w.next_place.ensures ∙ ap place_answer t.next-1.given.1)) ∙ w.loop-i.invariant.1)
+
+pub returns : goal.returns
+returns c = sym (walk_done _ _ _ (omega arith)) ∙ c.loop-i.invariant.1

@@ -1,0 +1,31 @@
+-- `vmd_reader::open_file` meets its contract. Assumes nothing.
+use mathlib.Core.Path.{◌≡◌, sym, ap, ◌∙◌}
+use Rattle.vmd_laws.specs.Places.{scan_file}
+use Rattle.vmd_scan.specs.Meaning.{scan_answer}
+use Rattle.vmd_laws.specs.InsideLaws.{inside_file}
+use Rattle.vmd_base.specs.Meaning.{manner_of}
+use Rattle.vmd_reader.proofs.Laws.{open_refused, open_scanned, scratch_refused, scratch_scanned}
+use Rattle.vmd_reader.proofs.open_file.Goals as goal
+use Rattle.vmd_reader.proofs.open_file.Lts as lts
+
+-- the scan that the answer of `scan_file` says
+scanned : (c : lts.After-scan_file) → let a = c.args in scan_file (manner_of a.manner) a.file.now ≡ scan_answer c.scan_file.result
+scanned c = sym c.scan_file.ensures
+
+pub open_sections-requires : goal.open_sections-requires
+open_sections-requires c κs =
+    let t = c.before.before in
+    inside_file _ _ _ (scanned t.before.before ∙ ap scan_answer t.sections-1.given.1)
+
+pub returns-in-Refused : goal.returns-in-Refused
+returns-in-Refused c =
+    let t = c.before in
+    let e = scanned t.before.before ∙ ap scan_answer t.k-1.given.1 in
+    (open_refused _ _ _ _ e, scratch_refused _ _ _ _ e)
+
+pub returns-in-Scanned : goal.returns-in-Scanned
+returns-in-Scanned c =
+    let o = c.before.before in
+    let t = o.before.before.before in
+    let e = scanned t.before.before ∙ ap scan_answer t.sections-1.given.1 in
+    (o.open_sections.ensures.0 ∙ open_scanned _ _ _ _ e, o.open_sections.ensures.1 ∙ scratch_scanned _ _ _ _ e)

@@ -1,0 +1,9 @@
+-- `vmd_season::figures_of` meets its contract. Assumes nothing.
+use Rattle.vmd_season.proofs.Laws.{figures_found}
+use Rattle.vmd_season.proofs.figures_of.Goals as goal
+
+pub returns : goal.returns
+returns c =
+    let n = c.before in
+    let s = n.before.before in
+    figures_found _ _ s.requires n.count_tracks-bone_names.ensures c.count_tracks-morph_names.ensures

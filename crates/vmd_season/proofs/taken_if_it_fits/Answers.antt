@@ -1,0 +1,23 @@
+-- `vmd_season::taken_if_it_fits` meets its contract. Assumes nothing.
+use mathlib.Core.Path.{◌∙◌, sym}
+use Rattle.vmd_season.specs.Season.{taken_if}
+use Rattle.vmd_season.proofs.taken_if_it_fits.Goals as goal
+
+pub with_take-requires : goal.with_take-requires
+with_take-requires c κs =
+    let t = c.before in
+    sym t.take_fits.ensures ∙ c.if-take_fits.true
+
+pub returns-then-take_fits : goal.returns-then-take_fits
+unfolding taken_if
+returns-then-take_fits c =
+    let i = c.before in
+    let t = i.before in
+    c.with_take.ensures ∙ rw (sym t.take_fits.ensures ∙ i.if-take_fits.true)
+
+pub returns : goal.returns
+unfolding taken_if
+returns c =
+    let i = c.before in
+    let t = i.before in
+    c.with_refused.ensures ∙ rw (sym t.take_fits.ensures ∙ i.if-take_fits.false)

@@ -1,0 +1,9 @@
+-- `vmd_write_columns::unless_first` meets its contract. Assumes nothing.
+use borrow.Author.Tests.{eq-eqb, ne_eqb}
+use Rattle.vmd_write_columns.proofs.unless_first.Goals as goal
+
+pub returns-then-i-eq0 : goal.returns-then-i-eq0
+returns-then-i-eq0 c = rw (eq-eqb c.args.i 0 c.if-i-eq0.true)
+
+pub returns-else-i-eq0 : goal.returns-else-i-eq0
+returns-else-i-eq0 c = rw (ne_eqb c.args.i 0 c.if-i-eq0.false)

@@ -1,0 +1,18 @@
+use native.Mathlib.Omega.{arith}
+use Rattle.vmd_laws.specs.SizedLaws.{bone_sized}
+use Rattle.vmd_writers.proofs.Records.{going_start, going_turn, going_end}
+use Rattle.vmd_writers.proofs.write_bones.Goals as goal
+
+pub loop-left-init : goal.loop-left-init
+loop-left-init c = going_start bone_sized c.requires.0 c.requires.1
+
+pub loop-left-preserved : goal.loop-left-preserved
+loop-left-preserved c =
+    let turn = c.before.before in
+    going_turn bone_sized turn.loop-left.invariant (omega arith) turn.write_bone.ensures
+
+pub shape_of-out : goal.shape_of-out
+shape_of-out c = c.loop-left.invariant.fill.rest.kept
+
+pub returns : goal.returns
+returns c = going_end bone_sized c.loop-left.invariant (omega arith)

@@ -1,0 +1,15 @@
+-- `vmd_writers::write_camera` meets its contract: 60 bytes as they are, and then the flag. Assumes nothing.
+use native.Mathlib.Omega.{arith}
+use Rattle.vmd_format.specs.Bytes.{is_zero, inverted_byte}
+use Rattle.vmd_bytes.proofs.Laws.{length_run}
+use Rattle.vmd_laws.specs.Rewriting.{camera_rewrites}
+use Rattle.vmd_writers.proofs.Records.{flagged}
+use Rattle.vmd_writers.proofs.write_camera.Goals as goal
+
+pub returns : goal.returns
+returns c =
+    let front = c.before.before.before.before in
+    let known = front.before.before.before in
+    let s = known.args in
+    flagged s.src.now s.out.now s.at s.to (λ i. (known.shared_slice_known-1.given i).fits) 60 (λ u. u) (λ b. inverted_byte (is_zero b)) camera_rewrites (length_run _ _ _ (omega arith)) (omega arith) (omega arith)
+    front.copy_camera_front.ensures c.canonical_inverted-flag.ensures

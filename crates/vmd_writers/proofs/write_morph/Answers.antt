@@ -1,0 +1,13 @@
+-- `vmd_writers::write_morph` meets its contract: the rest is written over the byte that the name is written too wide. Assumes nothing.
+use native.Mathlib.Omega.{arith}
+use Rattle.vmd_laws.specs.Rewriting.{morph_rewrites}
+use Rattle.vmd_writers.proofs.Records.{named}
+use Rattle.vmd_writers.proofs.write_morph.Goals as goal
+
+pub returns : goal.returns
+returns c =
+    let name = c.before.before.before.before.before.before in
+    let known = name.before.before.before in
+    let s = known.args in
+    named s.src.now s.out.now s.at s.to (λ i. (known.shared_slice_known-1.given i).fits) 15 8 morph_rewrites (omega arith) (omega arith) (omega arith)
+    name.write_name.ensures c.copy_word.ensures
