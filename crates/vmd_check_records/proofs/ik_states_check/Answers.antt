@@ -10,7 +10,7 @@ pub loop-left-init : goal.loop-left-init
 loop-left-init c = checking_start (omega arith)
 
 pub ik_check-requires : goal.ik_check-requires
-ik_check-requires c κs = (c.requires.0, checking_lies ik_state_sized c.loop-left.invariant (omega arith))
+ik_check-requires c κs = record { presence = c.requires.presence; at_in_bounds = checking_lies ik_state_sized c.loop-left.invariant (omega arith) }
 
 pub returns-in-Fails : goal.returns-in-Fails
 returns-in-Fails c =

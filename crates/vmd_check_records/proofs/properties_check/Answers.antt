@@ -6,7 +6,7 @@ use Rattle.vmd_check_records.proofs.Properties.{framing_start, framing_lies, fra
 use Rattle.vmd_check_records.proofs.properties_check.Goals as goal
 
 pub loop-left-init : goal.loop-left-init
-loop-left-init c = framing_start c.requires.1 c.property_count-left.ensures
+loop-left-init c = framing_start c.requires.bytes_value c.property_count-left.ensures
 
 pub overflow_add-at : goal.overflow_add-at
 overflow_add-at c = omega (arith, framing_lies c.loop-left.invariant (omega arith))
@@ -19,7 +19,7 @@ overflow_add-at-in-loop-left c = omega (arith, framing_lies c.loop-left.invarian
 
 pub ik_states_check-requires : goal.ik_states_check-requires
 ik_states_check-requires c κs =
-    (c.requires.0, omega (arith, framing_lies c.loop-left.invariant (omega arith), c.read_u32_le-states.ensures))
+    record { presence = c.requires.presence; n_in_bounds = omega (arith, framing_lies c.loop-left.invariant (omega arith), c.read_u32_le-states.ensures) }
 
 pub returns-in-Fails : goal.returns-in-Fails
 returns-in-Fails c =

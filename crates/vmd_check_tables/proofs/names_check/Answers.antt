@@ -7,7 +7,7 @@ use Rattle.vmd_check_tables.proofs.Tables.{naming_start, naming_fits, naming_fai
 use Rattle.vmd_check_tables.proofs.names_check.Goals as goal
 
 pub loop-i-init : goal.loop-i-init
-loop-i-init c = naming_start c.requires.1
+loop-i-init c = naming_start c.requires.ends_value
 
 pub overflow_cast-end : goal.overflow_cast-end
 overflow_cast-end c = omega (arith, c.shared_slice_known-in-loop-i-1.given c.loop-i.i)

@@ -24,14 +24,13 @@ write_excerpt-requires-in-Bytes-counted_size c κs =
     (p.requires, saves_room (bytes p.args.first p.args.last p.args.s.now (scan_is p.args.x)) refl _ (sym (heard written_answer a.counted_size.ensures e.enum_told-in-Bytes-counted_size-1.given.1)))
 
 pub returns-in-Bytes : goal.returns-in-Bytes
-returns-in-Bytes c = c.write_excerpt.ensures
+returns-in-Bytes c = let whole = c.write_excerpt.ensures in record { result_value = whole.0; out_after = whole.1 }
 
 pub returns-in-Refused-counted_size : goal.returns-in-Refused-counted_size
 returns-in-Refused-counted_size c =
     let a = c.before in
     let b = a.before.before in
-    let d = b.before.before.before.before.before.before in
-    saves_over (bytes d.args.first d.args.last d.args.s.now (scan_is d.args.x)) refl _ (sym (heard written_answer b.counted_size.ensures a.k-1.given.1))
+    let d = b.before.before.before.before.before.before in let whole = saves_over (bytes d.args.first d.args.last d.args.s.now (scan_is d.args.x)) refl _ (sym (heard written_answer b.counted_size.ensures a.k-1.given.1)) in record { result_value = whole.0; out_after = whole.1 }
 
 pub returns-in-Bytes-counted_size : goal.returns-in-Bytes-counted_size
-returns-in-Bytes-counted_size c = c.write_excerpt-in-Bytes-counted_size.ensures
+returns-in-Bytes-counted_size c = let whole = c.write_excerpt-in-Bytes-counted_size.ensures in record { result_value = whole.0; out_after = whole.1 }

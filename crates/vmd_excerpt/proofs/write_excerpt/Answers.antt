@@ -46,5 +46,4 @@ returns c =
     let s = a.args.s.now in
     let x = scan_is a.args.x in
     let r = rest_then (front_bytes a.args.first a.args.last s x ++ back_bytes a.args.first a.args.last s x) (file_rest a.args.first a.args.last s x a.requires.1 _ m.model_name.ensures) h.write_header-to.ensures in
-    let q = rest_then (back_bytes a.args.first a.args.last s x) r f.write_front-p.ensures in
-    saves_wrote a.requires.1 (rest_done q w.write_back-end.ensures)
+    let q = rest_then (back_bytes a.args.first a.args.last s x) r f.write_front-p.ensures in let whole = saves_wrote a.requires.1 (rest_done q w.write_back-end.ensures) in record { result_value = whole.0; out_after = whole.1 }

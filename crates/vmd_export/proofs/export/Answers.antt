@@ -18,8 +18,7 @@ write_take-requires c κs =
 pub returns-in-Refused : goal.returns-in-Refused
 returns-in-Refused c =
     let a = c.before in
-    let s = a.before.before in
-    saves_nothing _ _ _ (export_refused _ _ _ _ (heard scan_answer s.scan_fitting.ensures a.k-1.given.1))
+    let s = a.before.before in let whole = saves_nothing _ _ _ (export_refused _ _ _ _ (heard scan_answer s.scan_fitting.ensures a.k-1.given.1)) in record { result_value = whole.0; out_after = whole.1 }
 
 pub returns-in-Scanned : goal.returns-in-Scanned
 returns-in-Scanned c =
@@ -27,5 +26,4 @@ returns-in-Scanned c =
     let n = w.before in
     let m = n.before in
     let b = m.before.before.before in
-    let s = b.before.before in
-    same_saved _ (export_given _ _ _ _ _ (heard scan_answer s.scan_fitting.ensures b.a-1.given.1) n.no_sections.ensures _ m.model_name.ensures) w.write_take.ensures
+    let s = b.before.before in let whole = same_saved _ (export_given _ _ _ _ _ (heard scan_answer s.scan_fitting.ensures b.a-1.given.1) n.no_sections.ensures _ m.model_name.ensures) w.write_take.ensures in record { result_value = whole.0; out_after = whole.1 }

@@ -15,13 +15,11 @@ write_take-requires c κs =
 pub returns-in-Refused : goal.returns-in-Refused
 returns-in-Refused c =
     let a = c.before in
-    let s = a.before.before in
-    saves_nothing _ _ _ (join_refused _ _ _ _ (heard both_answer s.scan_both.ensures a.k-1.given.1))
+    let s = a.before.before in let whole = saves_nothing _ _ _ (join_refused _ _ _ _ (heard both_answer s.scan_both.ensures a.k-1.given.1)) in record { result_value = whole.0; out_after = whole.1 }
 
 pub returns-in-Scanned : goal.returns-in-Scanned
 returns-in-Scanned c =
     let w = c.before.before in
     let j = w.before in
     let b = j.before.before.before in
-    let s = b.before.before in
-    same_saved _ (join_given _ _ _ _ _ _ (heard both_answer s.scan_both.ensures b.a-1.given.1) j.joined_model.ensures) w.write_take.ensures
+    let s = b.before.before in let whole = same_saved _ (join_given _ _ _ _ _ _ (heard both_answer s.scan_both.ensures b.a-1.given.1) j.joined_model.ensures) w.write_take.ensures in record { result_value = whole.0; out_after = whole.1 }

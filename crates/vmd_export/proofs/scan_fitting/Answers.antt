@@ -10,7 +10,7 @@ returns-then-model_width-model_name c =
     let n = c.before in
     let w = n.before in
     let a = w.before.before in
-    fitting_long _ _ _ _ (heard scan_answer a.scan_file.ensures a.a-1.given.1) _ n.model_name.ensures (omega (arith, w.model_width.ensures.0))
+    fitting_long _ _ _ _ (heard scan_answer a.scan_file.ensures a.a-1.given.1) _ n.model_name.ensures (omega (arith, w.model_width.ensures.value))
 
 pub returns-in-Refused : goal.returns-in-Refused
 returns-in-Refused c =
@@ -22,4 +22,4 @@ returns-else-model_width-model_name c =
     let n = c.before in
     let w = n.before in
     let a = w.before.before in
-    fitting_found _ _ _ _ (heard scan_answer a.scan_file.ensures a.a-1.given.1) _ n.model_name.ensures (omega (arith, w.model_width.ensures.0))
+    fitting_found _ _ _ _ (heard scan_answer a.scan_file.ensures a.a-1.given.1) _ n.model_name.ensures (omega (arith, w.model_width.ensures.value))

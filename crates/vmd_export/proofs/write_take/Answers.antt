@@ -25,8 +25,7 @@ pub returns-in-Refused : goal.returns-in-Refused
 returns-in-Refused c =
     let a = c.before in
     let s = a.before.before in
-    let p = s.before.before.before.before.before in
-    take_over p.requires _ _ _ (sym (heard written_answer s.size_of_both.ensures a.k-1.given.1))
+    let p = s.before.before.before.before.before in let whole = take_over p.requires _ _ _ (sym (heard written_answer s.size_of_both.ensures a.k-1.given.1)) in record { result_value = whole.0; out_after = whole.1 }
 
 pub returns-in-Bytes : goal.returns-in-Bytes
 returns-in-Bytes c =
@@ -34,5 +33,4 @@ returns-in-Bytes c =
     let h = w.before.before.before.before in
     let e = h.before.before in
     let s = e.before.before in
-    let p = s.before.before.before.before.before in
-    take_wrote p.requires _ _ _ (sym (heard written_answer s.size_of_both.ensures e.enum_told-1.given.1)) (rest_done (rest_then _ (take_rest p.requires _ _ _ (sym (heard written_answer s.size_of_both.ensures e.enum_told-1.given.1))) h.write_header-to.ensures) w.write_sections-end.ensures)
+    let p = s.before.before.before.before.before in let whole = take_wrote p.requires _ _ _ (sym (heard written_answer s.size_of_both.ensures e.enum_told-1.given.1)) (rest_done (rest_then _ (take_rest p.requires _ _ _ (sym (heard written_answer s.size_of_both.ensures e.enum_told-1.given.1))) h.write_header-to.ensures) w.write_sections-end.ensures) in record { result_value = whole.0; out_after = whole.1 }

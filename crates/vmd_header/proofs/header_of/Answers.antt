@@ -9,7 +9,7 @@ use Rattle.vmd_header.proofs.header_of.Goals as goal
 
 pub returns-then-file-width : goal.returns-then-file-width
 unfolding map_answer
-returns-then-file-width c = sym (ap (map_answer header_places) (past_short _ _ (omega (arith, c.model_width-width.ensures.0))))
+returns-then-file-width c = sym (ap (map_answer header_places) (past_short _ _ (omega (arith, c.model_width-width.ensures.value))))
 
 pub returns : goal.returns
 unfolding map_answer

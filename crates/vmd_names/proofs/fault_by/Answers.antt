@@ -9,7 +9,7 @@ pub loop-i-init : goal.loop-i-init
 loop-i-init c = (omega arith, fault_start c.args.bytes.now)
 
 pub unit_at-n-requires : goal.unit_at-n-requires
-unit_at-n-requires c κs = (c.requires, omega arith)
+unit_at-n-requires c κs = record { presence = c.requires; at_in_bounds = omega arith }
 
 pub returns-then-n-eq0 : goal.returns-then-n-eq0
 returns-then-n-eq0 c =

@@ -13,7 +13,7 @@ returns-then-field-i-eq0 c =
     field_zero l.args.field.now l.loop-i.i l.loop-i.invariant.1 (omega arith) c.if-field-i-eq0.true
 
 pub unit_at-passed-requires : goal.unit_at-passed-requires
-unit_at-passed-requires c κs = (c.requires, omega arith)
+unit_at-passed-requires c κs = record { presence = c.requires; at_in_bounds = omega arith }
 
 pub returns-then-passed-eq0 : goal.returns-then-passed-eq0
 returns-then-passed-eq0 c =

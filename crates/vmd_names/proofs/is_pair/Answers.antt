@@ -36,7 +36,7 @@ pub has_character-requires : goal.has_character-requires
 unfolding lead trail
 has_character-requires c κs =
     let l = c.before.before in
-    (pointer_fits _ _ l.number_among-lead.ensures l.if-lead-eq-NONE.false c.number_among-trail.ensures c.if-trail-eq-NONE.false, l.requires)
+    record { pointer_bound = pointer_fits _ _ l.number_among-lead.ensures l.if-lead-eq-NONE.false c.number_among-trail.ensures c.if-trail-eq-NONE.false; presence = l.requires }
 
 pub returns : goal.returns
 unfolding lead trail

@@ -10,4 +10,4 @@ returns-then-states c = within_over _ _ (omega arith)
 
 pub returns : goal.returns
 unfolding file_length
-returns c = rw (← c.model_width.ensures.0) c.size_within.ensures
+returns c = rw (← c.model_width.ensures.value) c.size_within.ensures

@@ -10,7 +10,7 @@ pub write_fixed_bytes-requires : goal.write_fixed_bytes-requires
 write_fixed_bytes-requires c κs =
     let w = c.before.before.before in
     let s = w.before.before.before.before.before in
-    omega (arith, header_room _ _ s.requires, w.model_width-width.ensures.0, w.write_magic.auto.out)
+    omega (arith, header_room _ _ s.requires, w.model_width-width.ensures.value, w.write_magic.auto.out)
 
 pub returns : goal.returns
 returns c =
@@ -18,4 +18,4 @@ returns c =
     let w = f.before.before.before.before in
     let m = w.before.before in
     let s = m.before.before.before in
-    rw m.model_width-width.ensures.0 (header_wrote _ _ s.requires w.write_magic.ensures (rw m.model_width-width.ensures.0 at f.write_fixed_bytes.ensures))
+    rw m.model_width-width.ensures.value (header_wrote _ _ s.requires w.write_magic.ensures (rw m.model_width-width.ensures.value at f.write_fixed_bytes.ensures))

@@ -20,8 +20,7 @@ write_front-to-requires c κs =
     let a = s.before in
     let p = a.before.before in
     let e = (heard check_of p.parts_check.ensures a.enum_told-1.given.1) in
-    let k = checked _ e in
-    (bones_fit k, (morphs_fit k, (((small _ k).0, (small _ k).1), rest_room _ (built_rest _ e _ (sym (heard written_answer s.parts_size.ensures t.enum_told-in-Bytes-1.given.1))))))
+    let k = checked _ e in let whole = (bones_fit k, (morphs_fit k, (((small _ k).0, (small _ k).1), rest_room _ (built_rest _ e _ (sym (heard written_answer s.parts_size.ensures t.enum_told-in-Bytes-1.given.1)))))) in record { bones_fit = whole.0; morphs_fit = whole.1; bone_name_indices_len_bound = whole.2; room = whole.3 }
 
 pub write_back-end-requires : goal.write_back-end-requires
 write_back-end-requires c κs =
@@ -36,16 +35,14 @@ write_back-end-requires c κs =
 pub returns-in-Fails : goal.returns-in-Fails
 returns-in-Fails c =
     let a = c.before in
-    let p = a.before.before in
-    built_refused _ _ (heard check_of p.parts_check.ensures a.k-1.given.1)
+    let p = a.before.before in let whole = built_refused _ _ (heard check_of p.parts_check.ensures a.k-1.given.1) in record { result_value = whole.0; out_after = whole.1 }
 
 pub returns-in-Refused : goal.returns-in-Refused
 returns-in-Refused c =
     let k = c.before in
     let s = k.before.before in
     let e = s.before in
-    let p = e.before.before in
-    built_over _ (heard check_of p.parts_check.ensures e.enum_told-1.given.1) (sym (heard written_answer s.parts_size.ensures k.k-in-Refused-1.given.1))
+    let p = e.before.before in let whole = built_over _ (heard check_of p.parts_check.ensures e.enum_told-1.given.1) (sym (heard written_answer s.parts_size.ensures k.k-in-Refused-1.given.1)) in record { result_value = whole.0; out_after = whole.1 }
 
 pub returns-in-Bytes : goal.returns-in-Bytes
 returns-in-Bytes c =
@@ -56,5 +53,4 @@ returns-in-Bytes c =
     let a = s.before in
     let p = a.before.before in
     let e = (heard check_of p.parts_check.ensures a.enum_told-1.given.1) in
-    let h = (sym (heard written_answer s.parts_size.ensures t.enum_told-in-Bytes-1.given.1)) in
-    built_wrote _ e _ h (rest_done (rest_then _ (built_rest _ e _ h) f.write_front-to.ensures) w.write_back-end.ensures)
+    let h = (sym (heard written_answer s.parts_size.ensures t.enum_told-in-Bytes-1.given.1)) in let whole = built_wrote _ e _ h (rest_done (rest_then _ (built_rest _ e _ h) f.write_front-to.ensures) w.write_back-end.ensures) in record { result_value = whole.0; out_after = whole.1 }

@@ -21,11 +21,11 @@ pub returns-in-Refused : goal.returns-in-Refused
 returns-in-Refused c =
     let t = c.before in
     let e = scanned t.before.before ∙ ap scan_answer t.k-1.given.1 in
-    (open_refused _ _ _ _ e, scratch_refused _ _ _ _ e)
+    record { result_value = open_refused _ _ _ _ e; scratch_left = scratch_refused _ _ _ _ e }
 
 pub returns-in-Scanned : goal.returns-in-Scanned
 returns-in-Scanned c =
     let o = c.before.before in
     let t = o.before.before.before in
     let e = scanned t.before.before ∙ ap scan_answer t.sections-1.given.1 in
-    (o.open_sections.ensures.0 ∙ open_scanned _ _ _ _ e, o.open_sections.ensures.1 ∙ scratch_scanned _ _ _ _ e)
+    record { result_value = o.open_sections.ensures.result_value ∙ open_scanned _ _ _ _ e; scratch_left = o.open_sections.ensures.scratch_left ∙ scratch_scanned _ _ _ _ e }

@@ -12,8 +12,7 @@ parts_fit-requires c κs = scan_scanned _ _ _ (heard scan_answer c.scan_file.ens
 
 pub returns-then-not-parts_fit : goal.returns-then-not-parts_fit
 returns-then-not-parts_fit c = let e = heard scan_answer c.scan_file.ensures c.a-1.given.1 in
-    let k = scan_scanned _ _ _ e in
-    split_over _ _ _ e k (fits_agree _ _ k _ ∙ sym c.parts_fit.ensures ∙ not-true _ c.if-not-parts_fit.true)
+    let k = scan_scanned _ _ _ e in let whole = split_over _ _ _ e k (fits_agree _ _ k _ ∙ sym c.parts_fit.ensures ∙ not-true _ c.if-not-parts_fit.true) in record { result_value = whole.0; morph_weights_after = whole.1 }
 
 pub write_record_parts-requires : goal.write_record_parts-requires
 write_record_parts-requires c κs = let e = heard scan_answer c.scan_file.ensures c.a-1.given.1 in
@@ -23,15 +22,15 @@ write_record_parts-requires c κs = let e = heard scan_answer c.scan_file.ensure
 pub write_bone_parts-bones-requires : goal.write_bone_parts-bones-requires
 write_bone_parts-bones-requires c κs = let e = heard scan_answer c.scan_file.ensures c.a-1.given.1 in
     let r = parts_rooms (sym c.parts_fit.ensures ∙ not-false _ c.if-not-parts_fit.false) in
-    (((scan_scanned _ _ _ e).inside.bones, r.bones), r.bone-names)
+    record { extent_within = ((scan_scanned _ _ _ e).inside.bones, r.bones); bone_name_ends_value = r.bone-names }
 
 pub write_morph_parts-morphs-requires : goal.write_morph_parts-morphs-requires
 write_morph_parts-morphs-requires c κs = let e = heard scan_answer c.scan_file.ensures c.a-1.given.1 in
     let r = parts_rooms (sym c.parts_fit.ensures ∙ not-false _ c.if-not-parts_fit.false) in
-    (((scan_scanned _ _ _ e).inside.morphs, r.morphs), r.morph-names)
+    record { extent_within = ((scan_scanned _ _ _ e).inside.morphs, r.morphs); morph_name_ends_value = r.morph-names }
 
 pub returns-in-Refused : goal.returns-in-Refused
-returns-in-Refused c = split_refused _ _ _ (heard scan_answer c.scan_file.ensures c.k-1.given.1)
+returns-in-Refused c = let whole = split_refused _ _ _ (heard scan_answer c.scan_file.ensures c.k-1.given.1) in record { result_value = whole.0; morph_weights_after = whole.1 }
 
 pub shape_of-camera_frames : goal.shape_of-camera_frames
 shape_of-camera_frames c = c.write_record_parts.auto.camera_frames
@@ -49,4 +48,4 @@ pub returns-else-not-parts_fit : goal.returns-else-not-parts_fit
 returns-else-not-parts_fit c = let e = heard scan_answer c.scan_file.ensures c.a-1.given.1 in
     let k = scan_scanned _ _ _ e in
     let g = split_into _ _ _ e k (fits_agree _ _ k _ ∙ sym c.parts_fit.ensures ∙ not-false _ c.if-not-parts_fit.false) in
-    (sizes_done _ _ g c.write_record_parts.ensures c.write_bone_parts-bones.ensures c.write_morph_parts-morphs.ensures, parts_done _ _ g c.write_record_parts.ensures c.write_bone_parts-bones.ensures c.write_morph_parts-morphs.ensures)
+    record { result_value = sizes_done _ _ g c.write_record_parts.ensures c.write_bone_parts-bones.ensures c.write_morph_parts-morphs.ensures; morph_weights_after = parts_done _ _ g c.write_record_parts.ensures c.write_bone_parts-bones.ensures c.write_morph_parts-morphs.ensures }

@@ -2,6 +2,7 @@ use Prim.Native.Nat.{◌<◌, ◌-◌}
 use mathlib.Core.Path.{refl, ◌∙◌}
 use native.Mathlib.Omega.{arith}
 use lib.ListN.{length}
+use Rattle.vmd_keys.specs.Names.{whole}
 use Rattle.vmd_tables.proofs.Leaders.{beyond_same, beyond_set, leads_start, lists_start, leads_turn, lists_turn, lists_end}
 use Rattle.vmd_tables.proofs.list_leaders.Goals as goal
 
@@ -66,4 +67,4 @@ pub shape_of-cache : goal.shape_of-cache
 shape_of-cache c = c.loop-i.invariant.5
 
 pub returns : goal.returns
-returns c = let v = c.loop-i.invariant in lists_end v.0 c.loop-i-test.false v.1 v.2 v.3 v.4
+returns c = let v = c.loop-i.invariant in let whole = lists_end v.0 c.loop-i-test.false v.1 v.2 v.3 v.4 in record { leads = whole.0; beyond = whole.1 }

@@ -13,7 +13,7 @@ number_record-table-requires c κs =
     let l = c.before.before.before.before in
     let s = l.before.before.before.before.before.before in
     let g = l.loop-i.invariant.1 in
-    let p = s.requires in (
+    let p = s.requires in let whole = (
       (
         omega arith,
         omega (arith, indices_long g (space p) (omega arith)),
@@ -21,7 +21,7 @@ number_record-table-requires c κs =
         record_room l.loop-i.i p.0.0 (omega arith),
       ),
       numbered_fits g (space p) p.0.4 (omega arith),
-    )
+    ) in record { i_in_bounds = whole.0; fits = whole.1 }
 
 pub loop-i-preserved : goal.loop-i-preserved
 loop-i-preserved c =

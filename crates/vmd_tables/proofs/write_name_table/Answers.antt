@@ -9,7 +9,7 @@ pub returns-then-n-eq0 : goal.returns-then-n-eq0
 returns-then-n-eq0 c =
     let w = c.before.before.before.before.before.before in
     let a = w.args in
-    (numbered_end (omega arith) (omega arith) (numbered_start a.s.now a.at a.size a.bytes.now a.ends.now a.indices.now), beyond_same a.n a.work.now)
+    record { numbered = numbered_end (omega arith) (omega arith) (numbered_start a.s.now a.at a.size a.bytes.now a.ends.now a.indices.now); beyond = beyond_same a.n a.work.now }
 
 pub settle_leaders-requires : goal.settle_leaders-requires
 settle_leaders-requires c κs =
@@ -17,7 +17,7 @@ settle_leaders-requires c κs =
     let w = s.before.before.before.before.before.before.before in
     let i = w.before.before.before.before in
     let y = i.before.before.before.before.before.before in
-    let p = y.requires.0 in
+    let p = y.requires.n_in_bounds in
     let l = w.list_leaders-m.ensures in
     let o = s.sort_records.ensures in (
       record { within = p.0; wide = p.1; some = omega (arith, i.if-n-eq0.false) },
@@ -39,7 +39,7 @@ number_records-requires c κs =
     let p = y.requires in
     let l = w.list_leaders-m.ensures in
     let o = r.sort_records.ensures in
-    let t = s.settle_leaders.ensures in (
+    let t = s.settle_leaders.ensures in let whole = (
       (
         record { within = p.0.0; wide = p.0.1; some = omega (arith, i.if-n-eq0.false) },
         p.0.2,
@@ -48,7 +48,7 @@ number_records-requires c κs =
         t.0,
       ),
       p.1,
-    )
+    ) in record { rows = whole.0; n_in_bounds = whole.1 }
 
 pub returns : goal.returns
 returns c =
@@ -58,4 +58,4 @@ returns c =
     let w = r.before.before.before.before.before.before.before in
     let l = w.list_leaders-m.ensures in
     let t = s.settle_leaders.ensures in
-    (numbered_over (beyond_then l.1.1 (beyond_swaps l.0.1.few r.sort_records.ensures.1)) n.number_records.ensures, beyond_then l.1.0 t.1)
+    record { numbered = numbered_over (beyond_then l.1.1 (beyond_swaps l.0.1.few r.sort_records.ensures.1)) n.number_records.ensures; beyond = beyond_then l.1.0 t.1 }

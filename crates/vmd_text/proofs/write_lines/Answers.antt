@@ -18,7 +18,7 @@ pub bounds-out-at : goal.bounds-out-at
 bounds-out-at c = let w = c.write_decimal-at in omega (arith, w.ensures.1, w.auto.0)
 
 pub overflow_add-at : goal.overflow_add-at
-overflow_add-at c = omega (arith, c.write_decimal-at.ensures.1)
+overflow_add-at c = omega (arith, c.write_decimal-at.ensures.upper_bound)
 
 pub loop-i-preserved : goal.loop-i-preserved
 loop-i-preserved c =

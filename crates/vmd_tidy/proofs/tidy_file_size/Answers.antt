@@ -15,7 +15,7 @@ measure_scanned-requires c κs = scan_scanned (manner_of c.args.manner) _ _ (hea
 
 pub returns-in-Refused : goal.returns-in-Refused
 unfolding map_answer cleared
-returns-in-Refused c = rw (read_refused (manner_of c.args.manner) c.args.file.now (length c.args.scratch.now) longest _ (heard scan_answer c.scan_file.ensures c.k-1.given.1)) (refl, refl)
+returns-in-Refused c = let whole = rw (read_refused (manner_of c.args.manner) c.args.file.now (length c.args.scratch.now) longest _ (heard scan_answer c.scan_file.ensures c.k-1.given.1)) (refl, refl) in record { result_value = whole.0; scratch_left = whole.1 }
 
 pub returns-in-Scanned : goal.returns-in-Scanned
-returns-in-Scanned c = rw (read_scanned (manner_of c.args.manner) c.args.file.now (length c.args.scratch.now) longest _ (heard scan_answer c.scan_file.ensures c.x-1.given.1)) c.measure_scanned.ensures
+returns-in-Scanned c = let whole = rw (read_scanned (manner_of c.args.manner) c.args.file.now (length c.args.scratch.now) longest _ (heard scan_answer c.scan_file.ensures c.x-1.given.1)) c.measure_scanned.ensures in record { result_value = whole.0; scratch_left = whole.1 }
