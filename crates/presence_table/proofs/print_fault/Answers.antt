@@ -3,7 +3,7 @@ use Rattle.vmd_text.proofs.Laws.{front_fits}
 use Rattle.presence_table.proofs.print_fault.Goals as goal
 
 pub slice_bounds-text-end : goal.slice_bounds-text-end
-slice_bounds-text-end c = let w = c.write_message-n in (front_fits _ _ _ _ w.ensures.0 w.ensures.1).0
+slice_bounds-text-end c = let w = c.write_message-n in (front_fits _ _ _ _ w.ensures.out_after w.ensures.value).0
 
 pub slice_bounds-write_all-end : goal.slice_bounds-write_all-end
-slice_bounds-write_all-end c = let w = c.write_message-n in (front_fits _ _ _ _ w.ensures.0 w.ensures.1).1
+slice_bounds-write_all-end c = let w = c.write_message-n in (front_fits _ _ _ _ w.ensures.out_after w.ensures.value).1

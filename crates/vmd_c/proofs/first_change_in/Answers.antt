@@ -7,20 +7,14 @@ use Rattle.vmd_c.proofs.first_change_in.Goals as goal
 pub returns-in-Refused : goal.returns-in-Refused
 unfolding status slot_after
 returns-in-Refused c =
-    let a = c.before.before in
-    let f = a.before.before in
-    rw (sym f.first_file_change.ensures ∙ ap change_answer a.k-1.given.1) (c.number.ensures, refl)
+    rw (sym c.first_file_change.ensures ∙ ap change_answer c.in-Refused.is) (c.number.ensures, refl)
 
 pub returns-in-Nowhere : goal.returns-in-Nowhere
 unfolding status slot_after
 returns-in-Nowhere c =
-    let e = c.before in
-    let f = e.before.before in
-    rw (sym f.first_file_change.ensures ∙ ap change_answer e.enum_told-1.given.1) (refl, refl)
+    rw (sym c.first_file_change.ensures ∙ ap change_answer c.in-Nowhere.is) (refl, refl)
 
 pub returns-in-At : goal.returns-in-At
 unfolding status slot_after
 returns-in-At c =
-    let a = c.before.before in
-    let f = a.before.before in
-    rw (sym f.first_file_change.ensures ∙ ap change_answer a.n-1.given.1) (refl, refl)
+    rw (sym c.first_file_change.ensures ∙ ap change_answer c.in-At.is) (refl, refl)

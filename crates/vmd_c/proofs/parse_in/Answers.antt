@@ -7,15 +7,13 @@ use Rattle.vmd_c.proofs.parse_in.Goals as goal
 
 pub returns-in-Refused : goal.returns-in-Refused
 returns-in-Refused c =
-    let t = c.before.before in
-    let o = t.open_file.ensures in
-    let e = sym o.0 ∙ ap opening_answer t.k-1.given.1 in
-    (status_declined e c.number.ensures, slot_declined _ _ e, slot_declined _ _ e, slot_declined _ _ e, o.1)
+    let o = c.open_file.ensures in
+    let e = sym o.result_value ∙ ap opening_answer c.in-Refused.is in
+    (status_declined e c.number.ensures, slot_declined _ _ e, slot_declined _ _ e, slot_declined _ _ e, o.scratch_left)
 
 pub returns-in-Opened : goal.returns-in-Opened
 unfolding counts_of places_of totals_of
 returns-in-Opened c =
-    let t = c.before.before.before.before.before.before.before in
-    let o = t.open_file.ensures in
-    let e = sym o.0 ∙ ap opening_answer t.o-1.given.1 in
-    (status_given e, slot_given _ _ e refl, slot_given _ _ e refl, slot_given _ _ e refl, o.1)
+    let o = c.open_file.ensures in
+    let e = sym o.result_value ∙ ap opening_answer c.in-Opened.is in
+    (status_given e, slot_given _ _ e refl, slot_given _ _ e refl, slot_given _ _ e refl, o.scratch_left)

@@ -9,17 +9,13 @@ use Rattle.vmd_c.proofs.vmd_bone_frame.Goals as goal
 
 pub returns-in-Refused : goal.returns-in-Refused
 returns-in-Refused c =
-    let t = c.before.before in
-    let a = t.before.before in
-    refused bone_fields (fetch_at bone (λ x. x.bones) _ _ a.opening_of.ensures)
-    a.bone_frame.ensures (ap bone_answer t.k-1.given.1) _ _
+    refused bone_fields (fetch_at bone (λ x. x.bones) _ _ c.opening_of.ensures)
+    c.bone_frame.ensures (ap bone_answer c.in-Refused.is) _ _
     c.number.ensures
 
 pub returns-in-Found : goal.returns-in-Found
 unfolding bone_words bone_fields
 returns-in-Found c =
-    let t = c.before.before in
-    let a = t.before.before in
-    found bone_fields (fetch_at bone (λ x. x.bones) _ _ a.opening_of.ensures)
-    a.bone_frame.ensures (ap bone_answer t.x-1.given.1) _ _
+    found bone_fields (fetch_at bone (λ x. x.bones) _ _ c.opening_of.ensures)
+    c.bone_frame.ensures (ap bone_answer c.in-Found.is) _ _
     (λ v z. rw z)

@@ -7,5 +7,4 @@ use Rattle.vmd_c.proofs.vmd_bone_interpolation.Goals as goal
 
 pub returns : goal.returns
 returns c =
-    let n = c.before in
-    c.part_words.ensures ∙ ap part_words (field_part_at bone 111 (λ x. x.interpolation) 47 (λ x. x.bones) _ _ n.opening_of.ensures n.bone_interpolation_part.ensures)
+    c.part_words.ensures ∙ ap part_words (field_part_at bone 111 (λ x. x.interpolation) 47 (λ x. x.bones) _ _ c.opening_of.ensures c.bone_interpolation_part.ensures)

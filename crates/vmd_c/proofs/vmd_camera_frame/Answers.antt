@@ -9,17 +9,13 @@ use Rattle.vmd_c.proofs.vmd_camera_frame.Goals as goal
 
 pub returns-in-Refused : goal.returns-in-Refused
 returns-in-Refused c =
-    let t = c.before.before in
-    let a = t.before.before in
-    refused camera_fields (fetch_at camera (λ x. x.cameras) _ _ a.opening_of.ensures)
-    a.camera_frame.ensures (ap camera_answer t.k-1.given.1) _ _
+    refused camera_fields (fetch_at camera (λ x. x.cameras) _ _ c.opening_of.ensures)
+    c.camera_frame.ensures (ap camera_answer c.in-Refused.is) _ _
     c.number.ensures
 
 pub returns-in-Found : goal.returns-in-Found
 unfolding camera_words camera_fields
 returns-in-Found c =
-    let t = c.before.before.before.before in
-    let a = t.before.before in
-    found camera_fields (fetch_at camera (λ x. x.cameras) _ _ a.opening_of.ensures)
-    a.camera_frame.ensures (ap camera_answer t.x-1.given.1) _ _
+    found camera_fields (fetch_at camera (λ x. x.cameras) _ _ c.opening_of.ensures)
+    c.camera_frame.ensures (ap camera_answer c.in-Found.is) _ _
     (λ v z. rw (c.wide-perspective.ensures, c.flag_to_byte.ensures, z))

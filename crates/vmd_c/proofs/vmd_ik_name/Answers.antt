@@ -6,5 +6,4 @@ use Rattle.vmd_c.proofs.vmd_ik_name.Goals as goal
 
 pub returns : goal.returns
 returns c =
-    let n = c.before in
-    c.part_words.ensures ∙ ap part_words (ik_part_at _ _ _ _ n.opening_of.ensures n.ik_name_part.ensures)
+    c.part_words.ensures ∙ ap part_words (ik_part_at _ _ _ _ c.opening_of.ensures c.ik_name_part.ensures)

@@ -7,17 +7,13 @@ use Rattle.vmd_c.proofs.vmd_ik_state.Goals as goal
 
 pub returns-in-Refused : goal.returns-in-Refused
 returns-in-Refused c =
-    let t = c.before.before in
-    let a = t.before.before in
-    refused ik_fields (fetch_ik_at _ _ _ _ a.opening_of.ensures)
-    a.ik_state.ensures (ap ik_state_answer t.k-1.given.1) _ _
+    refused ik_fields (fetch_ik_at _ _ _ _ c.opening_of.ensures)
+    c.ik_state.ensures (ap ik_state_answer c.in-Refused.is) _ _
     c.number.ensures
 
 pub returns-in-Found : goal.returns-in-Found
 unfolding ik_fields
 returns-in-Found c =
-    let t = c.before.before.before in
-    let a = t.before.before in
-    found ik_fields (fetch_ik_at _ _ _ _ a.opening_of.ensures)
-    a.ik_state.ensures (ap ik_state_answer t.x-1.given.1) _ _
+    found ik_fields (fetch_ik_at _ _ _ _ c.opening_of.ensures)
+    c.ik_state.ensures (ap ik_state_answer c.in-Found.is) _ _
     (λ v z. rw (c.wide.ensures, c.flag_to_byte.ensures, z))

@@ -8,10 +8,8 @@ returns-then-n-eq0 c = joined_none _ _ c.joined_model-n.ensures c.if-n-eq0.true
 
 pub returns-then-model_name-eq0 : goal.returns-then-model_name-eq0
 returns-then-model_name-eq0 c =
-    let n = c.before.before in
-    joined_second _ _ n.joined_model-n.ensures (omega arith) n.model_name.ensures c.if-model_name-eq0.true
+    joined_second _ _ c.joined_model-n.ensures (omega arith) c.model_name.ensures c.if-model_name-eq0.true
 
 pub returns : goal.returns
 returns c =
-    let n = c.before.before in
-    joined_first _ _ n.joined_model-n.ensures n.model_name.ensures (omega arith)
+    joined_first _ _ c.joined_model-n.ensures c.model_name.ensures (omega arith)

@@ -9,17 +9,13 @@ use Rattle.vmd_c.proofs.vmd_light_frame.Goals as goal
 
 pub returns-in-Refused : goal.returns-in-Refused
 returns-in-Refused c =
-    let t = c.before.before in
-    let a = t.before.before in
-    let e = told light_floats (fetch_at light (λ x. x.lights) _ _ a.opening_of.ensures)
-    a.light_frame.ensures (ap light_answer t.k-1.given.1) in
+    let e = told light_floats (fetch_at light (λ x. x.lights) _ _ c.opening_of.ensures)
+    c.light_frame.ensures (ap light_answer c.in-Refused.is) in
     (status_declined e c.number.ensures, slot_declined _ _ e, slot_declined _ _ e)
 
 pub returns-in-Found : goal.returns-in-Found
 unfolding light_values light_floats
 returns-in-Found c =
-    let t = c.before.before in
-    let a = t.before.before in
-    let r = arrived light_floats (fetch_at light (λ x. x.lights) _ _ a.opening_of.ensures)
-    a.light_frame.ensures (ap light_answer t.x-1.given.1) in
+    let r = arrived light_floats (fetch_at light (λ x. x.lights) _ _ c.opening_of.ensures)
+    c.light_frame.ensures (ap light_answer c.in-Found.is) in
     (status_given r.is, slot_filled _ _ r (λ v z. rw z), slot_filled _ _ r (λ v z. rw z))

@@ -9,17 +9,13 @@ use Rattle.vmd_c.proofs.vmd_light_frame_bits.Goals as goal
 
 pub returns-in-Refused : goal.returns-in-Refused
 returns-in-Refused c =
-    let t = c.before.before in
-    let a = t.before.before in
-    refused light_bits (fetch_at light (λ x. x.lights) _ _ a.opening_of.ensures)
-    a.light_frame_bits.ensures (ap light_bits_answer t.k-1.given.1) _ _
+    refused light_bits (fetch_at light (λ x. x.lights) _ _ c.opening_of.ensures)
+    c.light_frame_bits.ensures (ap light_bits_answer c.in-Refused.is) _ _
     c.number.ensures
 
 pub returns-in-Found : goal.returns-in-Found
 unfolding light_words light_bits
 returns-in-Found c =
-    let t = c.before.before in
-    let a = t.before.before in
-    found light_bits (fetch_at light (λ x. x.lights) _ _ a.opening_of.ensures)
-    a.light_frame_bits.ensures (ap light_bits_answer t.x-1.given.1) _ _
+    found light_bits (fetch_at light (λ x. x.lights) _ _ c.opening_of.ensures)
+    c.light_frame_bits.ensures (ap light_bits_answer c.in-Found.is) _ _
     (λ v z. rw z)

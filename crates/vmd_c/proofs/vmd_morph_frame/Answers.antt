@@ -9,17 +9,13 @@ use Rattle.vmd_c.proofs.vmd_morph_frame.Goals as goal
 
 pub returns-in-Refused : goal.returns-in-Refused
 returns-in-Refused c =
-    let t = c.before.before in
-    let a = t.before.before in
-    refused morph_fields (fetch_at morph (λ x. x.morphs) _ _ a.opening_of.ensures)
-    a.morph_frame.ensures (ap morph_answer t.k-1.given.1) _ _
+    refused morph_fields (fetch_at morph (λ x. x.morphs) _ _ c.opening_of.ensures)
+    c.morph_frame.ensures (ap morph_answer c.in-Refused.is) _ _
     c.number.ensures
 
 pub returns-in-Found : goal.returns-in-Found
 unfolding morph_words morph_fields
 returns-in-Found c =
-    let t = c.before.before in
-    let a = t.before.before in
-    found morph_fields (fetch_at morph (λ x. x.morphs) _ _ a.opening_of.ensures)
-    a.morph_frame.ensures (ap morph_answer t.x-1.given.1) _ _
+    found morph_fields (fetch_at morph (λ x. x.morphs) _ _ c.opening_of.ensures)
+    c.morph_frame.ensures (ap morph_answer c.in-Found.is) _ _
     (λ v z. rw z)

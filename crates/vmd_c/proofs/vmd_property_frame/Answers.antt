@@ -8,17 +8,13 @@ use Rattle.vmd_c.proofs.vmd_property_frame.Goals as goal
 
 pub returns-in-Refused : goal.returns-in-Refused
 returns-in-Refused c =
-    let t = c.before.before in
-    let a = t.before.before in
-    refused property_fields (fetch_property_at _ _ _ a.opening_of.ensures)
-    a.property_frame.ensures (ap property_answer t.k-1.given.1) _ _
+    refused property_fields (fetch_property_at _ _ _ c.opening_of.ensures)
+    c.property_frame.ensures (ap property_answer c.in-Refused.is) _ _
     c.number.ensures
 
 pub returns-in-Found : goal.returns-in-Found
 unfolding property_words property_fields
 returns-in-Found c =
-    let t = c.before.before in
-    let a = t.before.before in
-    found property_fields (fetch_property_at _ _ _ a.opening_of.ensures)
-    a.property_frame.ensures (ap property_answer t.x-1.given.1) _ _
+    found property_fields (fetch_property_at _ _ _ c.opening_of.ensures)
+    c.property_frame.ensures (ap property_answer c.in-Found.is) _ _
     (λ v z. rw (c.property_words.ensures, z))

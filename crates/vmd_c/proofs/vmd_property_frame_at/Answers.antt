@@ -8,15 +8,13 @@ use Rattle.vmd_c.proofs.vmd_property_frame_at.Goals as goal
 
 pub returns-in-Refused : goal.returns-in-Refused
 returns-in-Refused c =
-    let t = c.before.before in
-    let e = told step_fields refl t.property_frame_at.ensures (ap step_answer t.k-1.given.1) in
+    let e = told step_fields refl c.property_frame_at.ensures (ap step_answer c.in-Refused.is) in
     (status_declined e c.number.ensures, slot_declined _ _ e, slot_declined _ _ e)
 
 pub returns-in-Found : goal.returns-in-Found
 unfolding property_words property_fields
 returns-in-Found c =
-    let t = c.before.before in
-    let r = arrived step_fields refl t.property_frame_at.ensures (ap step_answer t.frame-1.given.1) in (
+    let r = arrived step_fields refl c.property_frame_at.ensures (ap step_answer c.in-Found.is) in (
       status_given r.is,
       slot_filled _ _ r (λ v z. rw (c.property_words.ensures, ap (λ p. p.0) z)),
       slot_filled _ _ r (λ v z. ap (λ p. p.1) z),

@@ -7,8 +7,5 @@ use Rattle.vmd_c.proofs.vmd_season_add.Goals as goal
 
 pub returns : goal.returns
 returns c =
-    let a = c.before.before.before in
-    let s = a.before in
-    let b = s.before.before.before.before in
-    let e = a.add-next.ensures ∙ ap (λ z. with_file lenient z b.args.file.now) s.season_of.ensures in
+    let e = c.add-next.ensures ∙ ap (λ z. with_file lenient z c.args.file.now) c.season_of.ensures in
     (c.report_season.ensures.0 ∙ ap season_counts e, c.report_season.ensures.1 ∙ ap season_figures e)

@@ -8,6 +8,4 @@ use Rattle.vmd_c.proofs.vmd_season_mean.Goals as goal
 pub returns : goal.returns
 unfolding mean_words
 returns c =
-    let m = c.before in
-    let s = m.before in
-    ap mean_words (m.mean-m.ensures ∙ ap mean s.season_of.ensures ∙ mean_without _ _)
+    ap mean_words (c.mean-m.ensures ∙ ap mean c.season_of.ensures ∙ mean_without _ _)

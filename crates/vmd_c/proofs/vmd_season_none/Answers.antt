@@ -5,5 +5,4 @@ use Rattle.vmd_c.proofs.vmd_season_none.Goals as goal
 
 pub returns : goal.returns
 returns c =
-    let n = c.before.before.before in
-    (c.report_season.ensures.0 ∙ ap season_counts n.none.ensures, c.report_season.ensures.1 ∙ ap season_figures n.none.ensures)
+    (c.report_season.ensures.0 ∙ ap season_counts c.none.ensures, c.report_season.ensures.1 ∙ ap season_figures c.none.ensures)

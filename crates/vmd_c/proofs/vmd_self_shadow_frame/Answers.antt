@@ -9,17 +9,13 @@ use Rattle.vmd_c.proofs.vmd_self_shadow_frame.Goals as goal
 
 pub returns-in-Refused : goal.returns-in-Refused
 returns-in-Refused c =
-    let t = c.before.before in
-    let a = t.before.before in
-    refused self_shadow_fields (fetch_at self_shadow (λ x. x.self-shadows) _ _ a.opening_of.ensures)
-    a.self_shadow_frame.ensures (ap self_shadow_answer t.k-1.given.1) _ _
+    refused self_shadow_fields (fetch_at self_shadow (λ x. x.self-shadows) _ _ c.opening_of.ensures)
+    c.self_shadow_frame.ensures (ap self_shadow_answer c.in-Refused.is) _ _
     c.number.ensures
 
 pub returns-in-Found : goal.returns-in-Found
 unfolding self_shadow_words self_shadow_fields
 returns-in-Found c =
-    let t = c.before.before.before in
-    let a = t.before.before in
-    found self_shadow_fields (fetch_at self_shadow (λ x. x.self-shadows) _ _ a.opening_of.ensures)
-    a.self_shadow_frame.ensures (ap self_shadow_answer t.x-1.given.1) _ _
+    found self_shadow_fields (fetch_at self_shadow (λ x. x.self-shadows) _ _ c.opening_of.ensures)
+    c.self_shadow_frame.ensures (ap self_shadow_answer c.in-Found.is) _ _
     (λ v z. rw (c.wide-mode.ensures, z))

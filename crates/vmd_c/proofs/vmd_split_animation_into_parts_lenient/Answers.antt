@@ -4,67 +4,54 @@ use Rattle.vmd_c.proofs.vmd_split_animation_into_parts_lenient.Goals as goal
 
 pub shape_of-bone_name_bytes : goal.shape_of-bone_name_bytes
 shape_of-bone_name_bytes c =
-    let s = c.before.before.before.before.before.before.before.before.before.before.before.before.before.before.before.before.before.before.before.before.before.before.before.before.before.before.before.before.before.before.before.before.before.before in
-    s.split_file-answer.auto.bone_name_bytes
+    c.split_file-answer.auto.bone_name_bytes
 
 pub shape_of-bone_name_ends : goal.shape_of-bone_name_ends
 shape_of-bone_name_ends c =
-    let s = c.before.before.before.before.before.before.before.before.before.before.before.before.before.before.before.before.before.before.before.before.before.before.before.before.before.before.before.before.before.before.before.before.before.before in
-    s.split_file-answer.auto.bone_name_ends
+    c.split_file-answer.auto.bone_name_ends
 
 pub shape_of-morph_name_bytes : goal.shape_of-morph_name_bytes
 shape_of-morph_name_bytes c =
-    let s = c.before.before.before.before.before.before.before.before.before.before.before.before.before.before.before.before.before.before.before.before.before.before.before.before.before.before.before.before.before.before.before.before.before.before in
-    s.split_file-answer.auto.morph_name_bytes
+    c.split_file-answer.auto.morph_name_bytes
 
 pub shape_of-morph_name_ends : goal.shape_of-morph_name_ends
 shape_of-morph_name_ends c =
-    let s = c.before.before.before.before.before.before.before.before.before.before.before.before.before.before.before.before.before.before.before.before.before.before.before.before.before.before.before.before.before.before.before.before.before.before in
-    s.split_file-answer.auto.morph_name_ends
+    c.split_file-answer.auto.morph_name_ends
 
 pub shape_of-camera_frames : goal.shape_of-camera_frames
 shape_of-camera_frames c =
-    let s = c.before.before.before.before.before.before.before.before.before.before.before.before.before.before.before.before.before.before.before.before.before.before.before.before.before.before.before.before.before.before.before.before.before.before in
-    s.split_file-answer.auto.camera_frames
+    c.split_file-answer.auto.camera_frames
 
 pub shape_of-light_frames : goal.shape_of-light_frames
 shape_of-light_frames c =
-    let s = c.before.before.before.before.before.before.before.before.before.before.before.before.before.before.before.before.before.before.before.before.before.before.before.before.before.before.before.before.before.before.before.before.before.before in
-    s.split_file-answer.auto.light_frames
+    c.split_file-answer.auto.light_frames
 
 pub shape_of-self_shadow_frames : goal.shape_of-self_shadow_frames
 shape_of-self_shadow_frames c =
-    let s = c.before.before.before.before.before.before.before.before.before.before.before.before.before.before.before.before.before.before.before.before.before.before.before.before.before.before.before.before.before.before.before.before.before.before in
-    s.split_file-answer.auto.self_shadow_frames
+    c.split_file-answer.auto.self_shadow_frames
 
 pub shape_of-property_frames : goal.shape_of-property_frames
 shape_of-property_frames c =
-    let s = c.before.before.before.before.before.before.before.before.before.before.before.before.before.before.before.before.before.before.before.before.before.before.before.before.before.before.before.before.before.before.before.before.before.before in
-    s.split_file-answer.auto.property_frames
+    c.split_file-answer.auto.property_frames
 
 pub shape_of-bone_name_indices : goal.shape_of-bone_name_indices
 shape_of-bone_name_indices c =
-    let s = c.before.before.before.before.before.before.before.before.before.before.before.before.before.before.before.before.before.before.before.before.before.before.before.before.before.before.before.before.before.before.before.before.before.before in
-    s.split_file-answer.auto.bone_name_indices
+    c.split_file-answer.auto.bone_name_indices
 
 pub shape_of-bone_frames : goal.shape_of-bone_frames
 shape_of-bone_frames c =
-    let s = c.before.before.before.before.before.before.before.before.before.before.before.before.before.before.before.before.before.before.before.before.before.before.before.before.before.before.before.before.before.before.before.before.before.before in
-    s.split_file-answer.auto.bone_frames
+    c.split_file-answer.auto.bone_frames
 
 pub shape_of-bone_translations_xyz : goal.shape_of-bone_translations_xyz
 shape_of-bone_translations_xyz c =
-    let s = c.before.before.before.before.before.before.before.before.before.before.before.before.before.before.before.before.before.before.before.before.before.before.before.before.before.before.before.before.before.before.before.before.before.before in
-    s.split_file-answer.auto.bone_translations_xyz
+    c.split_file-answer.auto.bone_translations_xyz
 
 pub shape_of-bone_rotations_xyzw : goal.shape_of-bone_rotations_xyzw
 shape_of-bone_rotations_xyzw c =
-    let s = c.before.before.before.before.before.before.before.before.before.before.before.before.before.before.before.before.before.before.before.before.before.before.before.before.before.before.before.before.before.before.before.before.before.before in
-    s.split_file-answer.auto.bone_rotations_xyzw
+    c.split_file-answer.auto.bone_rotations_xyzw
 
 pub returns : goal.returns
 returns c =
-    let s = c.before.before.before.before.before.before.before.before.before.before.before.before.before.before.before.before.before.before.before.before.before.before.before.before.before.before.before.before.before.before.before.before.before.before in
-    let w = s.split_file-answer.ensures in
-    let r = handed _ _ c.report_sizes.ensures w.0 in
-    (r.0, r.1, w.1)
+    let w = c.split_file-answer.ensures in
+    let r = handed _ _ c.report_sizes.ensures w.result_value in
+    (r.0, r.1, w.morph_weights_after)

@@ -9,17 +9,13 @@ use Rattle.vmd_canonical.proofs.change_found.Goals as goal
 pub returns-then-file-end : goal.returns-then-file-end
 unfolding change_at change_over
 returns-then-file-end c =
-    let a = c.before.before in
-    let s = a.before.before in
-    rw (a.compared-in-Same-1.given.1, le-leb (length s.args.file.now) a.compared-in-Same-1.given.0.0 (omega arith)) refl
+    rw (c.in-Same.is, le-leb (length c.args.file.now) c.in-Same.end (omega arith)) refl
 
 pub returns-in-Differs : goal.returns-in-Differs
 unfolding change_at
-returns-in-Differs c = rw c.compared-1.given.1 refl
+returns-in-Differs c = rw c.in-Differs.is refl
 
 pub returns-else-file-end : goal.returns-else-file-end
 unfolding change_at change_over
 returns-else-file-end c =
-    let a = c.before.before in
-    let s = a.before.before in
-    rw (a.compared-in-Same-1.given.1, lt-leb (length s.args.file.now) a.compared-in-Same-1.given.0.0 (omega arith)) refl
+    rw (c.in-Same.is, lt-leb (length c.args.file.now) c.in-Same.end (omega arith)) refl

@@ -10,23 +10,13 @@ use Rattle.vmd_format.specs.Answer.{given}
 use Rattle.vmd_canonical.proofs.first_file_change.Goals as goal
 
 pub compare_file-requires : goal.compare_file-requires
-compare_file-requires c κs =
-    let a = c.before in
-    let s = a.before.before in
-    let b = s.before.before in
-    scanned_from (manner_of b.args.manner) b.args.file.now _ (sym s.scan_file.ensures ∙ ap scan_answer a.x-1.given.1)
+compare_file-requires c =
+    scanned_from (manner_of c.args.manner) c.args.file.now _ (sym c.scan_file.ensures ∙ ap scan_answer c.in-Scanned.is)
 
 pub returns-in-Refused : goal.returns-in-Refused
 returns-in-Refused c =
-    let a = c.before in
-    let s = a.before.before in
-    let b = s.before.before in
-    sym (refused_change (manner_of b.args.manner) b.args.file.now _ (sym s.scan_file.ensures ∙ ap scan_answer a.k-1.given.1))
+    sym (refused_change (manner_of c.args.manner) c.args.file.now _ (sym c.scan_file.ensures ∙ ap scan_answer c.in-Refused.is))
 
 pub returns-in-Scanned : goal.returns-in-Scanned
 returns-in-Scanned c =
-    let f = c.before in
-    let a = f.before.before in
-    let s = a.before.before in
-    let b = s.before.before in
-    c.change_found.ensures ∙ ap (λ t. given (change_at (length b.args.file.now) t)) f.compare_file.ensures ∙ sym (scanned_change (manner_of b.args.manner) b.args.file.now _ (sym s.scan_file.ensures ∙ ap scan_answer a.x-1.given.1))
+    c.change_found.ensures ∙ ap (λ t. given (change_at (length c.args.file.now) t)) c.compare_file.ensures ∙ sym (scanned_change (manner_of c.args.manner) c.args.file.now _ (sym c.scan_file.ensures ∙ ap scan_answer c.in-Scanned.is))

@@ -5,17 +5,14 @@ use Rattle.vmd_form.specs.Compare.{and_next}
 use Rattle.vmd_canonical.proofs.next_property_section.Goals as goal
 
 pub compare_property_section-requires : goal.compare_property_section-requires
-compare_property_section-requires c κs =
-    let f = c.before in
-    let s = f.before.before.before in
-    let h = s.requires.0 _ (ap compared_is f.front-in-Same-1.given.1) in (h.0, h.1, s.requires.1)
+compare_property_section-requires c =
+    let h = c.requires.0 _ (ap compared_is c.in-Same.is) in (h.0, h.1, c.requires.1)
 
 pub returns-in-Differs : goal.returns-in-Differs
 unfolding and_next
-returns-in-Differs c = rw c.front-1.given.1 refl
+returns-in-Differs c = rw c.in-Differs.is refl
 
 pub returns-in-Same : goal.returns-in-Same
 unfolding and_next
 returns-in-Same c =
-    let f = c.before.before in
-    rw f.front-in-Same-1.given.1 c.compare_property_section.ensures
+    rw c.in-Same.is c.compare_property_section.ensures

@@ -19,25 +19,19 @@ returns-then-names-indices c =
 pub returns-then-floats_finite-2 : goal.returns-then-floats_finite-2
 unfolding bone_right need
 returns-then-floats_finite-2 c =
-    let f = c.before.before.before in
-    let i = f.before in
-    let a = i.args in
-    index_small (get_or a.indices.now a.i 0) a.names _ i.if-names-indices.false
-    (rw (sym f.floats_finite.ensures ∙ c.if-floats_finite.true, sym c.floats_finite-then-floats_finite.ensures ∙ c.if-floats_finite-2.true))
+    let a = c.args in
+    index_small (get_or a.indices.now a.i 0) a.names _ c.if-names-indices.false
+    (rw (sym c.floats_finite.ensures ∙ c.if-floats_finite.true, sym c.floats_finite-then-floats_finite.ensures ∙ c.if-floats_finite-2.true))
 
 pub returns-else-floats_finite-2 : goal.returns-else-floats_finite-2
 unfolding bone_right need
 returns-else-floats_finite-2 c =
-    let f = c.before.before.before in
-    let i = f.before in
-    let a = i.args in
-    index_small (get_or a.indices.now a.i 0) a.names _ i.if-names-indices.false
-    (rw (sym f.floats_finite.ensures ∙ c.if-floats_finite.true, sym c.floats_finite-then-floats_finite.ensures ∙ c.if-floats_finite-2.false))
+    let a = c.args in
+    index_small (get_or a.indices.now a.i 0) a.names _ c.if-names-indices.false
+    (rw (sym c.floats_finite.ensures ∙ c.if-floats_finite.true, sym c.floats_finite-then-floats_finite.ensures ∙ c.if-floats_finite-2.false))
 
 pub returns-else-floats_finite : goal.returns-else-floats_finite
 unfolding bone_right need
 returns-else-floats_finite c =
-    let f = c.before in
-    let i = f.before in
-    let a = i.args in
-    index_small (get_or a.indices.now a.i 0) a.names _ i.if-names-indices.false (rw (sym f.floats_finite.ensures ∙ c.if-floats_finite.false))
+    let a = c.args in
+    index_small (get_or a.indices.now a.i 0) a.names _ c.if-names-indices.false (rw (sym c.floats_finite.ensures ∙ c.if-floats_finite.false))

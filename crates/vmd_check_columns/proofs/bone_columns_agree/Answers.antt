@@ -11,33 +11,25 @@ returns-then-frames-bones c = rw (ne_eqb c.args.frames c.args.bones c.if-frames-
 pub returns-then-is_times-2 : goal.returns-then-is_times-2
 unfolding bone_columns
 returns-then-is_times-2 c =
-    let r = c.before.before in
-    let t = r.before.before in
-    let i = t.before in
     rw (
-      eq-eqb i.args.frames i.args.bones i.if-frames-bones.false,
-      sym t.is_times.ensures ∙ r.if-is_times.true,
-      sym r.is_times-then-is_times.ensures ∙ c.if-is_times-2.true,
+      eq-eqb c.args.frames c.args.bones c.if-frames-bones.false,
+      sym c.is_times.ensures ∙ c.if-is_times.true,
+      sym c.is_times-then-is_times.ensures ∙ c.if-is_times-2.true,
     ) c.is_times-then-is_times-2.ensures
 
 pub returns-else-is_times-2 : goal.returns-else-is_times-2
 unfolding bone_columns
 returns-else-is_times-2 c =
-    let r = c.before in
-    let t = r.before.before in
-    let i = t.before in
     rw (
-      eq-eqb i.args.frames i.args.bones i.if-frames-bones.false,
-      sym t.is_times.ensures ∙ r.if-is_times.true,
-      sym r.is_times-then-is_times.ensures ∙ c.if-is_times-2.false,
+      eq-eqb c.args.frames c.args.bones c.if-frames-bones.false,
+      sym c.is_times.ensures ∙ c.if-is_times.true,
+      sym c.is_times-then-is_times.ensures ∙ c.if-is_times-2.false,
     )
 
 pub returns-else-is_times : goal.returns-else-is_times
 unfolding bone_columns
 returns-else-is_times c =
-    let t = c.before in
-    let i = t.before in
     rw (
-      eq-eqb i.args.frames i.args.bones i.if-frames-bones.false,
-      sym t.is_times.ensures ∙ c.if-is_times.false,
+      eq-eqb c.args.frames c.args.bones c.if-frames-bones.false,
+      sym c.is_times.ensures ∙ c.if-is_times.false,
     )

@@ -7,14 +7,12 @@ use Rattle.vmd_check_columns.proofs.columns_check.Goals as goal
 pub returns-then-morph_columns_agree : goal.returns-then-morph_columns_agree
 unfolding columns_right need
 returns-then-morph_columns_agree c =
-    let b = c.before.before.before in
-    rw (sym b.bone_columns_agree.ensures ∙ c.if-bone_columns_agree.true, sym c.morph_columns_agree.ensures ∙ c.if-morph_columns_agree.true)
+    rw (sym c.bone_columns_agree.ensures ∙ c.if-bone_columns_agree.true, sym c.morph_columns_agree.ensures ∙ c.if-morph_columns_agree.true)
 
 pub returns-else-morph_columns_agree : goal.returns-else-morph_columns_agree
 unfolding columns_right need
 returns-else-morph_columns_agree c =
-    let b = c.before.before.before in
-    rw (sym b.bone_columns_agree.ensures ∙ c.if-bone_columns_agree.true, sym c.morph_columns_agree.ensures ∙ c.if-morph_columns_agree.false)
+    rw (sym c.bone_columns_agree.ensures ∙ c.if-bone_columns_agree.true, sym c.morph_columns_agree.ensures ∙ c.if-morph_columns_agree.false)
 
 pub returns-else-bone_columns_agree : goal.returns-else-bone_columns_agree
 unfolding columns_right need

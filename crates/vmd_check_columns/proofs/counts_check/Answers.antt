@@ -49,7 +49,7 @@ returns-then-self_shadows-gt4294967295 c =
       le-leb a.morphs 4294967295 c.if-morphs-gt4294967295.false,
       le-leb a.cameras 4294967295 c.if-cameras-gt4294967295.false,
       le-leb a.lights 4294967295 c.if-lights-gt4294967295.false,
-      lt-leb a.self-shadows 4294967295 c.if-self_shadows-gt4294967295.true,
+      lt-leb a.self_shadows 4294967295 c.if-self_shadows-gt4294967295.true,
     )
 
 pub returns-then-properties-gt4294967295 : goal.returns-then-properties-gt4294967295
@@ -61,7 +61,7 @@ returns-then-properties-gt4294967295 c =
       le-leb a.morphs 4294967295 c.if-morphs-gt4294967295.false,
       le-leb a.cameras 4294967295 c.if-cameras-gt4294967295.false,
       le-leb a.lights 4294967295 c.if-lights-gt4294967295.false,
-      le-leb a.self-shadows 4294967295 c.if-self_shadows-gt4294967295.false,
+      le-leb a.self_shadows 4294967295 c.if-self_shadows-gt4294967295.false,
       lt-leb a.properties 4294967295 c.if-properties-gt4294967295.true,
     )
 
@@ -74,6 +74,6 @@ returns c =
       le-leb a.morphs 4294967295 c.if-morphs-gt4294967295.false,
       le-leb a.cameras 4294967295 c.if-cameras-gt4294967295.false,
       le-leb a.lights 4294967295 c.if-lights-gt4294967295.false,
-      le-leb a.self-shadows 4294967295 c.if-self_shadows-gt4294967295.false,
+      le-leb a.self_shadows 4294967295 c.if-self_shadows-gt4294967295.false,
       le-leb a.properties 4294967295 c.if-properties-gt4294967295.false,
     )

@@ -4,10 +4,8 @@ use Rattle.vmd_check_columns.proofs.is_times.Goals as goal
 
 pub returns-then-len-k-ne0 : goal.returns-then-len-k-ne0
 returns-then-len-k-ne0 c =
-    let s = c.before in
-    times_over s.args.len s.args.k s.args.n s.requires c.if-len-k-ne0.true
+    times_over c.args.len c.args.k c.args.n c.requires c.if-len-k-ne0.true
 
 pub returns : goal.returns
 returns c =
-    let s = c.before in
-    times_even s.args.len s.args.k s.args.n s.requires c.if-len-k-ne0.false
+    times_even c.args.len c.args.k c.args.n c.requires c.if-len-k-ne0.false

@@ -16,20 +16,18 @@ pub returns-then-morph_names-indices : goal.returns-then-morph_names-indices
 unfolding morph_right
 returns-then-morph_names-indices c =
     let a = c.args in
-    index_large (get_or a.indices.now a.i 0) a.morph-names _ c.if-morph_names-indices.true
+    index_large (get_or a.indices.now a.i 0) a.morph_names _ c.if-morph_names-indices.true
 
 pub returns-then-is_finite : goal.returns-then-is_finite
 unfolding morph_right
 returns-then-is_finite c =
-    let i = c.before.before.before in
-    let a = i.args in
-    index_small (get_or a.indices.now a.i 0) a.morph-names _ i.if-morph_names-indices.false
+    let a = c.args in
+    index_small (get_or a.indices.now a.i 0) a.morph_names _ c.if-morph_names-indices.false
     (need_true not_finite (c.is_finite.ensures ∙ ap finite (sym (bits_at a.weights.now a.i (omega arith)))) c.if-is_finite.true)
 
 pub returns : goal.returns
 unfolding morph_right
 returns c =
-    let i = c.before.before.before in
-    let a = i.args in
-    index_small (get_or a.indices.now a.i 0) a.morph-names _ i.if-morph_names-indices.false
+    let a = c.args in
+    index_small (get_or a.indices.now a.i 0) a.morph_names _ c.if-morph_names-indices.false
     (need_false not_finite (c.is_finite.ensures ∙ ap finite (sym (bits_at a.weights.now a.i (omega arith)))) c.if-is_finite.false)

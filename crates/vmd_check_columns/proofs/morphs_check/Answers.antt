@@ -10,13 +10,11 @@ loop-i-init c = turning_start
 
 pub returns-in-Fails : goal.returns-in-Fails
 returns-in-Fails c =
-    let r = c.before.before.before in
-    turning_fails r.loop-i.invariant (omega arith) r.morph_check.ensures (ap check_of c.k-1.given.1)
+    turning_fails c.loop-i.invariant (omega arith) c.morph_check.ensures (ap check_of c.in-Fails.is)
 
 pub loop-i-preserved : goal.loop-i-preserved
 loop-i-preserved c =
-    let r = c.before.before in
-    turning_turn r.loop-i.invariant (omega arith) r.morph_check.ensures (ap check_of c.enum_told-1.given.1)
+    turning_turn c.loop-i.invariant (omega arith) c.morph_check.ensures (ap check_of c.in-Passes.is)
 
 pub returns : goal.returns
 returns c = turning_end c.loop-i.invariant c.loop-i-test.false

@@ -11,16 +11,14 @@ returns-then-bytes-at-lt-SIZE c = counting_short c.loop-at.invariant (omega arit
 
 pub returns-then-bytes-at : goal.returns-then-bytes-at
 returns-then-bytes-at c =
-    let r = c.before in
-    counting_over r.loop-at.invariant r.read_u32_le-count.ensures (omega arith) (omega arith)
+    counting_over c.loop-at.invariant c.read_u32_le-count.ensures (omega arith) (omega arith)
 
 pub overflow_add-n : goal.overflow_add-n
 overflow_add-n c = omega (arith, c.loop-at.invariant.few)
 
 pub loop-at-preserved : goal.loop-at-preserved
 loop-at-preserved c =
-    let r = c.before in
-    counting_turn r.loop-at.invariant r.read_u32_le-count.ensures (omega arith)
+    counting_turn c.loop-at.invariant c.read_u32_le-count.ensures (omega arith)
 
 pub returns : goal.returns
 returns c = counting_end c.loop-at.invariant (omega arith)

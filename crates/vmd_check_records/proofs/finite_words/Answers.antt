@@ -6,20 +6,18 @@ pub loop-left-init : goal.loop-left-init
 loop-left-init c = words_start (omega arith)
 
 pub read_u32_le-bits-requires : goal.read_u32_le-bits-requires
-read_u32_le-bits-requires c κs = omega (arith, c.loop-left.invariant.lie)
+read_u32_le-bits-requires c = omega (arith, c.loop-left.invariant.lie)
 
 pub overflow_add-p : goal.overflow_add-p
 overflow_add-p c = omega (arith, c.loop-left.invariant.lie)
 
 pub loop-left-preserved : goal.loop-left-preserved
 loop-left-preserved c =
-    let f = c.before in
-    words_turn f.loop-left.invariant (omega arith) f.read_u32_le-bits.ensures f.is_finite_bits.ensures c.if-is_finite_bits.true
+    words_turn c.loop-left.invariant (omega arith) c.read_u32_le-bits.ensures c.is_finite_bits.ensures c.if-is_finite_bits.true
 
 pub returns-else-is_finite_bits : goal.returns-else-is_finite_bits
 returns-else-is_finite_bits c =
-    let f = c.before in
-    words_fail f.loop-left.invariant (omega arith) f.read_u32_le-bits.ensures f.is_finite_bits.ensures c.if-is_finite_bits.false
+    words_fail c.loop-left.invariant (omega arith) c.read_u32_le-bits.ensures c.is_finite_bits.ensures c.if-is_finite_bits.false
 
 pub returns : goal.returns
 returns c = words_end c.loop-left.invariant (omega arith)

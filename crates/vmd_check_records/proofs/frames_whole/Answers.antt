@@ -5,7 +5,7 @@ use Rattle.vmd_check_records.proofs.Properties.{counted_not, counted_whole}
 use Rattle.vmd_check_records.proofs.frames_whole.Goals as goal
 
 pub returns-in-NotWhole : goal.returns-in-NotWhole
-returns-in-NotWhole c = (counted_not _ (sym (ap frames_of c.enum_told-1.given.1) ∙ c.count_frames.ensures)).0
+returns-in-NotWhole c = (counted_not _ (sym (ap frames_of c.in-NotWhole.is) ∙ c.count_frames.ensures)).0
 
 pub returns-in-Whole : goal.returns-in-Whole
-returns-in-Whole c = (counted_whole _ _ (sym (ap frames_of c.enum_told-in-Whole-1.given.1) ∙ c.count_frames.ensures)).0
+returns-in-Whole c = (counted_whole _ _ (sym (ap frames_of c.in-Whole.is) ∙ c.count_frames.ensures)).0

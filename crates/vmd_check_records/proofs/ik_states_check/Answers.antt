@@ -10,20 +10,18 @@ pub loop-left-init : goal.loop-left-init
 loop-left-init c = checking_start (omega arith)
 
 pub ik_check-requires : goal.ik_check-requires
-ik_check-requires c κs = record { presence = c.requires.presence; at_in_bounds = checking_lies ik_state_sized c.loop-left.invariant (omega arith) }
+ik_check-requires c = record { presence = c.requires.presence; at_in_bounds = checking_lies ik_state_sized c.loop-left.invariant (omega arith) }
 
 pub returns-in-Fails : goal.returns-in-Fails
 returns-in-Fails c =
-    let r = c.before.before.before in
-    checking_fails ik_state_sized r.loop-left.invariant (omega arith) r.ik_check.ensures (ap check_of c.k-1.given.1)
+    checking_fails ik_state_sized c.loop-left.invariant (omega arith) c.ik_check.ensures (ap check_of c.in-Fails.is)
 
 pub overflow_add-at : goal.overflow_add-at
 overflow_add-at c = omega (arith, checking_lies ik_state_sized c.loop-left.invariant (omega arith))
 
 pub loop-left-preserved : goal.loop-left-preserved
 loop-left-preserved c =
-    let r = c.before.before in
-    checking_turn ik_state_sized r.loop-left.invariant (omega arith) r.ik_check.ensures (ap check_of c.enum_told-1.given.1)
+    checking_turn ik_state_sized c.loop-left.invariant (omega arith) c.ik_check.ensures (ap check_of c.in-Passes.is)
 
 pub returns : goal.returns
 returns c = checking_end ik_state_sized c.loop-left.invariant (omega arith)

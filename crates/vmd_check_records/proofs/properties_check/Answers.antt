@@ -12,29 +12,27 @@ pub overflow_add-at : goal.overflow_add-at
 overflow_add-at c = omega (arith, framing_lies c.loop-left.invariant (omega arith))
 
 pub read_u32_le-states-requires : goal.read_u32_le-states-requires
-read_u32_le-states-requires c κs = omega (arith, framing_lies c.loop-left.invariant (omega arith))
+read_u32_le-states-requires c = omega (arith, framing_lies c.loop-left.invariant (omega arith))
 
 pub overflow_add-at-in-loop-left : goal.overflow_add-at-in-loop-left
 overflow_add-at-in-loop-left c = omega (arith, framing_lies c.loop-left.invariant (omega arith))
 
 pub ik_states_check-requires : goal.ik_states_check-requires
-ik_states_check-requires c κs =
+ik_states_check-requires c =
     record { presence = c.requires.presence; n_in_bounds = omega (arith, framing_lies c.loop-left.invariant (omega arith), c.read_u32_le-states.ensures) }
 
 pub returns-in-Fails : goal.returns-in-Fails
 returns-in-Fails c =
-    let i = c.before.before.before in
-    framing_fails i.loop-left.invariant (omega arith) i.read_u32_le-states.ensures i.ik_states_check.ensures (ap check_of c.k-1.given.1)
+    framing_fails c.loop-left.invariant (omega arith) c.read_u32_le-states.ensures c.ik_states_check.ensures (ap check_of c.in-Fails.is)
 
 pub next_property_frame-at-requires : goal.next_property_frame-at-requires
 unfolding next_frame
-next_property_frame-at-requires c κs = framing_lies c.loop-left.invariant (omega arith)
+next_property_frame-at-requires c = framing_lies c.loop-left.invariant (omega arith)
 
 pub loop-left-preserved : goal.loop-left-preserved
 loop-left-preserved c =
-    let i = c.before.before.before in
-    framing_turn i.loop-left.invariant (omega arith) i.read_u32_le-states.ensures i.ik_states_check.ensures
-    (ap check_of c.enum_told-1.given.1) c.next_property_frame-at.ensures
+    framing_turn c.loop-left.invariant (omega arith) c.read_u32_le-states.ensures c.ik_states_check.ensures
+    (ap check_of c.in-Passes.is) c.next_property_frame-at.ensures
 
 pub returns : goal.returns
 returns c = framing_end c.loop-left.invariant (omega arith)

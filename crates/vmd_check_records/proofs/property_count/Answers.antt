@@ -7,8 +7,8 @@ use Rattle.vmd_check_records.proofs.property_count.Goals as goal
 
 pub returns-in-NotWhole : goal.returns-in-NotWhole
 unfolding properties_of
-returns-in-NotWhole c = (counted_not _ (sym (ap frames_of c.enum_told-1.given.1) ∙ c.count_frames.ensures)).1
+returns-in-NotWhole c = (counted_not _ (sym (ap frames_of c.in-NotWhole.is) ∙ c.count_frames.ensures)).1
 
 pub returns-in-Whole : goal.returns-in-Whole
 unfolding properties_of
-returns-in-Whole c = (counted_whole _ _ (sym (ap frames_of c.n-1.given.1) ∙ c.count_frames.ensures)).1
+returns-in-Whole c = (counted_whole _ _ (sym (ap frames_of c.in-Whole.is) ∙ c.count_frames.ensures)).1

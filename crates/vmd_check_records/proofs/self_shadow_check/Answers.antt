@@ -4,13 +4,11 @@ use Rattle.vmd_check_records.proofs.self_shadow_check.Goals as goal
 
 pub returns-then-bytes-at-le2 : goal.returns-then-bytes-at-le2
 returns-then-bytes-at-le2 c =
-    let f = c.before.before.before in
-    shadow_passes f.args.bytes.now f.args.at f.finite_words.ensures c.if-finite_words.true c.if-bytes-at-le2.true
+    shadow_passes c.args.bytes.now c.args.at c.finite_words.ensures c.if-finite_words.true c.if-bytes-at-le2.true
 
 pub returns-else-bytes-at-le2 : goal.returns-else-bytes-at-le2
 returns-else-bytes-at-le2 c =
-    let f = c.before.before.before in
-    shadow_mode f.args.bytes.now f.args.at f.finite_words.ensures c.if-finite_words.true c.if-bytes-at-le2.false
+    shadow_mode c.args.bytes.now c.args.at c.finite_words.ensures c.if-finite_words.true c.if-bytes-at-le2.false
 
 pub returns-else-finite_words : goal.returns-else-finite_words
 returns-else-finite_words c = shadow_distance c.args.bytes.now c.args.at c.finite_words.ensures c.if-finite_words.false

@@ -10,20 +10,18 @@ pub loop-left-init : goal.loop-left-init
 loop-left-init c = records_start
 
 pub self_shadow_check-requires : goal.self_shadow_check-requires
-self_shadow_check-requires c κs = checking_lies self_shadow_sized c.loop-left.invariant (omega arith)
+self_shadow_check-requires c = checking_lies self_shadow_sized c.loop-left.invariant (omega arith)
 
 pub returns-in-Fails : goal.returns-in-Fails
 returns-in-Fails c =
-    let r = c.before.before.before in
-    checking_fails self_shadow_sized r.loop-left.invariant (omega arith) r.self_shadow_check.ensures (ap check_of c.k-1.given.1) ∙ records_are _ _ self_shadow_sized
+    checking_fails self_shadow_sized c.loop-left.invariant (omega arith) c.self_shadow_check.ensures (ap check_of c.in-Fails.is) ∙ records_are _ _ self_shadow_sized
 
 pub overflow_add-at : goal.overflow_add-at
 overflow_add-at c = omega (arith, checking_lies self_shadow_sized c.loop-left.invariant (omega arith))
 
 pub loop-left-preserved : goal.loop-left-preserved
 loop-left-preserved c =
-    let r = c.before.before in
-    checking_turn self_shadow_sized r.loop-left.invariant (omega arith) r.self_shadow_check.ensures (ap check_of c.enum_told-1.given.1)
+    checking_turn self_shadow_sized c.loop-left.invariant (omega arith) c.self_shadow_check.ensures (ap check_of c.in-Passes.is)
 
 pub returns : goal.returns
 returns c = checking_end self_shadow_sized c.loop-left.invariant (omega arith) ∙ records_are _ _ self_shadow_sized

@@ -23,13 +23,11 @@ slice_bounds-name-end c = omega (arith, naming_fits c.loop-i.invariant (omega ar
 
 pub returns-in-Fails : goal.returns-in-Fails
 returns-in-Fails c =
-    let n = c.before.before.before in
-    naming_fails n.loop-i.invariant (omega arith) n.name_check.ensures (ap check_of c.k-1.given.1)
+    naming_fails c.loop-i.invariant (omega arith) c.name_check.ensures (ap check_of c.in-Fails.is)
 
 pub loop-i-preserved : goal.loop-i-preserved
 loop-i-preserved c =
-    let n = c.before.before in
-    naming_turn n.loop-i.invariant (omega arith) n.name_check.ensures (ap check_of c.enum_told-1.given.1)
+    naming_turn c.loop-i.invariant (omega arith) c.name_check.ensures (ap check_of c.in-Passes.is)
 
 pub returns : goal.returns
 returns c = naming_end c.loop-i.invariant c.loop-i-test.false

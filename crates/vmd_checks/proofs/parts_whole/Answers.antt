@@ -12,9 +12,9 @@ returns-then-self_shadow_frames-eq0 c =
     let a = c.args in
     and_on _ c.table_right.ensures c.if-table_right.true
     (and_on _ c.table_right-then-table_right.ensures c.if-table_right-2.true
-    (and_on _ (none_over camera_sized a.camera-frames.now c.if-camera_frames-eq0.true) refl
-    (and_on _ (none_over light_sized a.light-frames.now c.if-light_frames-eq0.true) refl
-    (and_on _ (none_over self_shadow_sized a.self-shadow-frames.now c.if-self_shadow_frames-eq0.true) refl
+    (and_on _ (none_over camera_sized a.camera_frames.now c.if-camera_frames-eq0.true) refl
+    (and_on _ (none_over light_sized a.light_frames.now c.if-light_frames-eq0.true) refl
+    (and_on _ (none_over self_shadow_sized a.self_shadow_frames.now c.if-self_shadow_frames-eq0.true) refl
     c.frames_whole.ensures))))
 
 pub returns-else-self_shadow_frames-eq0 : goal.returns-else-self_shadow_frames-eq0
@@ -23,9 +23,9 @@ returns-else-self_shadow_frames-eq0 c =
     let a = c.args in
     and_on _ c.table_right.ensures c.if-table_right.true
     (and_on _ c.table_right-then-table_right.ensures c.if-table_right-2.true
-    (and_on _ (none_over camera_sized a.camera-frames.now c.if-camera_frames-eq0.true) refl
-    (and_on _ (none_over light_sized a.light-frames.now c.if-light_frames-eq0.true) refl
-    (and_fails _ (some_over self_shadow_sized a.self-shadow-frames.now c.if-self_shadow_frames-eq0.false) refl))))
+    (and_on _ (none_over camera_sized a.camera_frames.now c.if-camera_frames-eq0.true) refl
+    (and_on _ (none_over light_sized a.light_frames.now c.if-light_frames-eq0.true) refl
+    (and_fails _ (some_over self_shadow_sized a.self_shadow_frames.now c.if-self_shadow_frames-eq0.false) refl))))
 
 pub returns-else-light_frames-eq0 : goal.returns-else-light_frames-eq0
 unfolding all_whole
@@ -33,8 +33,8 @@ returns-else-light_frames-eq0 c =
     let a = c.args in
     and_on _ c.table_right.ensures c.if-table_right.true
     (and_on _ c.table_right-then-table_right.ensures c.if-table_right-2.true
-    (and_on _ (none_over camera_sized a.camera-frames.now c.if-camera_frames-eq0.true) refl
-    (and_fails _ (some_over light_sized a.light-frames.now c.if-light_frames-eq0.false) refl)))
+    (and_on _ (none_over camera_sized a.camera_frames.now c.if-camera_frames-eq0.true) refl
+    (and_fails _ (some_over light_sized a.light_frames.now c.if-light_frames-eq0.false) refl)))
 
 pub returns-else-camera_frames-eq0 : goal.returns-else-camera_frames-eq0
 unfolding all_whole
@@ -42,7 +42,7 @@ returns-else-camera_frames-eq0 c =
     let a = c.args in
     and_on _ c.table_right.ensures c.if-table_right.true
     (and_on _ c.table_right-then-table_right.ensures c.if-table_right-2.true
-    (and_fails _ (some_over camera_sized a.camera-frames.now c.if-camera_frames-eq0.false) refl))
+    (and_fails _ (some_over camera_sized a.camera_frames.now c.if-camera_frames-eq0.false) refl))
 
 pub returns-else-table_right-2 : goal.returns-else-table_right-2
 unfolding all_whole

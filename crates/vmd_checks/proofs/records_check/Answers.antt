@@ -7,29 +7,24 @@ use Rattle.vmd_checks.proofs.records_check.Goals as goal
 
 pub returns-in-Fails : goal.returns-in-Fails
 unfolding records_right
-returns-in-Fails c = chain_fails _ c.cameras_check.ensures (ap check_of c.k-1.given.1)
+returns-in-Fails c = chain_fails _ c.cameras_check.ensures (ap check_of c.in-Fails.is)
 
 pub returns-in-Fails-lights_check : goal.returns-in-Fails-lights_check
 unfolding records_right
 returns-in-Fails-lights_check c =
-    let l = c.before.before.before in
-    chain_on _ l.cameras_check.ensures (ap check_of l.enum_told-1.given.1)
-    (chain_fails _ l.lights_check.ensures (ap check_of c.k-in-Fails-lights_check-1.given.1))
+    chain_on _ c.cameras_check.ensures (ap check_of c.in-Passes.is)
+    (chain_fails _ c.lights_check.ensures (ap check_of c.in-Fails-lights_check.is))
 
 pub returns-in-Fails-self_shadows_check : goal.returns-in-Fails-self_shadows_check
 unfolding records_right
 returns-in-Fails-self_shadows_check c =
-    let s = c.before.before.before in
-    let l = s.before.before.before in
-    chain_on _ l.cameras_check.ensures (ap check_of l.enum_told-1.given.1)
-    (chain_on _ l.lights_check.ensures (ap check_of s.enum_told-in-Passes-lights_check-1.given.1)
-    (chain_fails _ s.self_shadows_check.ensures (ap check_of c.k-in-Fails-self_shadows_check-1.given.1)))
+    chain_on _ c.cameras_check.ensures (ap check_of c.in-Passes.is)
+    (chain_on _ c.lights_check.ensures (ap check_of c.in-Passes-lights_check.is)
+    (chain_fails _ c.self_shadows_check.ensures (ap check_of c.in-Fails-self_shadows_check.is)))
 
 pub returns-in-Passes-self_shadows_check : goal.returns-in-Passes-self_shadows_check
 unfolding records_right
 returns-in-Passes-self_shadows_check c =
-    let s = c.before.before.before.before in
-    let l = s.before.before.before in
-    chain_on _ l.cameras_check.ensures (ap check_of l.enum_told-1.given.1)
-    (chain_on _ l.lights_check.ensures (ap check_of s.enum_told-in-Passes-lights_check-1.given.1)
-    (chain_on _ s.self_shadows_check.ensures (ap check_of c.enum_told-in-Passes-self_shadows_check-1.given.1) c.properties_check.ensures))
+    chain_on _ c.cameras_check.ensures (ap check_of c.in-Passes.is)
+    (chain_on _ c.lights_check.ensures (ap check_of c.in-Passes-lights_check.is)
+    (chain_on _ c.self_shadows_check.ensures (ap check_of c.in-Passes-self_shadows_check.is) c.properties_check.ensures))

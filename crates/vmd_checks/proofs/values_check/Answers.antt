@@ -7,9 +7,9 @@ use Rattle.vmd_checks.proofs.values_check.Goals as goal
 
 pub returns-in-Fails : goal.returns-in-Fails
 unfolding values_right
-returns-in-Fails c = chain_fails _ c.bones_check.ensures (ap check_of c.k-1.given.1)
+returns-in-Fails c = chain_fails _ c.bones_check.ensures (ap check_of c.in-Fails.is)
 
 pub returns-in-Passes : goal.returns-in-Passes
 unfolding values_right
 returns-in-Passes c =
-    chain_on _ c.bones_check.ensures (ap check_of c.enum_told-1.given.1) c.morphs_check.ensures
+    chain_on _ c.bones_check.ensures (ap check_of c.in-Passes.is) c.morphs_check.ensures

@@ -5,14 +5,13 @@ use Rattle.vmd_columns.proofs.write_interpolations.Goals as goal
 
 pub loop-left-init : goal.loop-left-init
 loop-left-init c =
-    let s = c.before.before in
-    going_start s.args.at s.args.n (run_wide s.args.s.now 64) s.requires.1 s.requires.0 s.requires.2
+    going_start c.args.at c.args.n (run_wide c.args.s.now 64) c.requires.1 c.requires.0 c.requires.2
 
 pub overflow_add-p : goal.overflow_add-p
 overflow_add-p c = omega (arith, going_lies c.loop-left.invariant (omega arith), c.loop-left.invariant.inside)
 
 pub copy_interpolation-requires : goal.copy_interpolation-requires
-copy_interpolation-requires c κs =
+copy_interpolation-requires c =
     let g = c.loop-left.invariant in
     (omega (arith, going_lies g (omega arith), g.inside), going_room g (omega arith))
 
@@ -24,8 +23,7 @@ overflow_add-q c = omega (arith, going_room c.loop-left.invariant (omega arith))
 
 pub loop-left-preserved : goal.loop-left-preserved
 loop-left-preserved c =
-    let w = c.before.before in
-    going_turn w.loop-left.invariant (omega arith) w.copy_interpolation.ensures
+    going_turn c.loop-left.invariant (omega arith) c.copy_interpolation.ensures
 
 pub shape_of-out : goal.shape_of-out
 shape_of-out c = c.loop-left.invariant.rest.kept

@@ -9,24 +9,16 @@ loop-i-init c = (omega arith, c.requires, refl)
 
 pub returns-then-file-p : goal.returns-then-file-p
 returns-then-file-p c =
-    let l = c.before.before in
-    let s = l.before in
-    sym (l.loop-i.invariant.2 ∙ bytes_ended s.args.file.now s.args.bytes.now l.loop-i.p l.loop-i.i (omega arith) (omega arith))
+    sym (c.loop-i.invariant.2 ∙ bytes_ended c.args.file.now c.args.bytes.now c.loop-i.p c.loop-i.i (omega arith) (omega arith))
 
 pub returns-then-file-p-2 : goal.returns-then-file-p-2
 returns-then-file-p-2 c =
-    let l = c.before.before.before.before.before in
-    let s = l.before in
-    sym (l.loop-i.invariant.2 ∙ bytes_differ s.args.file.now s.args.bytes.now l.loop-i.p l.loop-i.i (omega arith) (omega arith) c.if-file-p-2.true)
+    sym (c.loop-i.invariant.2 ∙ bytes_differ c.args.file.now c.args.bytes.now c.loop-i.p c.loop-i.i (omega arith) (omega arith) c.if-file-p-2.true)
 
 pub loop-i-preserved : goal.loop-i-preserved
 loop-i-preserved c =
-    let l = c.before.before.before.before.before in
-    let s = l.before in
-    (omega arith, omega arith, l.loop-i.invariant.2 ∙ bytes_agree s.args.file.now s.args.bytes.now l.loop-i.p l.loop-i.i (omega arith) (omega arith) c.if-file-p-2.false)
+    (omega arith, omega arith, c.loop-i.invariant.2 ∙ bytes_agree c.args.file.now c.args.bytes.now c.loop-i.p c.loop-i.i (omega arith) (omega arith) c.if-file-p-2.false)
 
 pub returns : goal.returns
 returns c =
-    let l = c.before in
-    let s = l.before in
-    sym (l.loop-i.invariant.2 ∙ bytes_done s.args.file.now s.args.bytes.now l.loop-i.p l.loop-i.i (omega arith))
+    sym (c.loop-i.invariant.2 ∙ bytes_done c.args.file.now c.args.bytes.now c.loop-i.p c.loop-i.i (omega arith))

@@ -12,25 +12,18 @@ pub overflow_add-p : goal.overflow_add-p
 overflow_add-p c = omega (arith, left_room c.loop-left.invariant (omega arith))
 
 pub compare_flag-requires : goal.compare_flag-requires
-compare_flag-requires c κs = omega (arith, left_room c.loop-left.invariant (omega arith))
+compare_flag-requires c = omega (arith, left_room c.loop-left.invariant (omega arith))
 
 pub returns-in-Differs : goal.returns-in-Differs
 returns-in-Differs c =
-    let a = c.before in
-    let b = a.before.before in
-    let l = b.before.before in
-    let s = l.before.before in
-    left_differs l.loop-left.invariant (omega arith) a.q-1.given.0.0 (ap compared_is (sym a.q-1.given.1) ∙ b.compare_flag.ensures ∙ sym (camera_is s.args.file.now l.loop-left.p (left_room l.loop-left.invariant (omega arith))))
+    left_differs c.loop-left.invariant (omega arith) c.in-Differs.q (ap compared_is (sym c.in-Differs.is) ∙ c.compare_flag.ensures ∙ sym (camera_is c.args.file.now c.loop-left.p (left_room c.loop-left.invariant (omega arith))))
 
 pub overflow_add-p-in-loop-left : goal.overflow_add-p-in-loop-left
 overflow_add-p-in-loop-left c = omega (arith, left_room c.loop-left.invariant (omega arith))
 
 pub loop-left-preserved : goal.loop-left-preserved
 loop-left-preserved c =
-    let a = c.before.before in
-    let l = a.before.before in
-    let s = l.before.before in
-    left_turn l.loop-left.invariant (omega arith) (camera_length s.args.file.now l.loop-left.p (left_room l.loop-left.invariant (omega arith))) c.enum_told-1.given.0.0 (ap compared_is (sym c.enum_told-1.given.1) ∙ a.compare_flag.ensures ∙ sym (camera_is s.args.file.now l.loop-left.p (left_room l.loop-left.invariant (omega arith))))
+    left_turn c.loop-left.invariant (omega arith) (camera_length c.args.file.now c.loop-left.p (left_room c.loop-left.invariant (omega arith))) c.in_default.field-0 (ap compared_is (sym c.in_default.is) ∙ c.compare_flag.ensures ∙ sym (camera_is c.args.file.now c.loop-left.p (left_room c.loop-left.invariant (omega arith))))
 
 pub returns : goal.returns
 returns c = left_done c.loop-left.invariant (omega arith)

@@ -6,10 +6,8 @@ use Rattle.vmd_compare.proofs.compare_flag.Goals as goal
 
 pub returns-then-file-at-gt1 : goal.returns-then-file-at-gt1
 returns-then-file-at-gt1 c =
-    let s = c.before.before in
-    sym (flag_differs s.args.file.now s.args.at (omega arith) (omega arith))
+    sym (flag_differs c.args.file.now c.args.at (omega arith) (omega arith))
 
 pub returns : goal.returns
 returns c =
-    let s = c.before.before in
-    sym (flag_agrees s.args.file.now s.args.at (omega arith) (omega arith))
+    sym (flag_agrees c.args.file.now c.args.at (omega arith) (omega arith))

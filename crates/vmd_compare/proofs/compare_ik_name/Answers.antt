@@ -6,6 +6,4 @@ use Rattle.vmd_compare.proofs.compare_ik_name.Goals as goal
 
 pub returns-then-is_plain_ik_name : goal.returns-then-is_plain_ik_name
 returns-then-is_plain_ik_name c =
-    let i = c.before in
-    let s = i.before.before in
-    sym (name_agrees s.args.file.now s.args.at 20 (omega arith) (i.is_plain_ik_name.ensures c.if-is_plain_ik_name.true))
+    sym (name_agrees c.args.file.now c.args.at 20 (omega arith) (c.is_plain_ik_name.ensures c.if-is_plain_ik_name.true))

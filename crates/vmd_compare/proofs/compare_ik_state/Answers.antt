@@ -6,14 +6,8 @@ use Rattle.vmd_compare.proofs.compare_ik_state.Goals as goal
 
 pub returns-in-Differs : goal.returns-in-Differs
 returns-in-Differs c =
-    let a = c.before in
-    let n = a.before.before in
-    let s = n.before.before in
-    sym (ik_differs s.args.file.now s.args.at _ (sym n.compare_ik_name.ensures ∙ ap compared_is a.q-1.given.1))
+    sym (ik_differs c.args.file.now c.args.at _ (sym c.compare_ik_name.ensures ∙ ap compared_is c.in-Differs.is))
 
 pub returns-in-Same : goal.returns-in-Same
 returns-in-Same c =
-    let e = c.before in
-    let n = e.before.before in
-    let s = n.before.before in
-    c.compare_flag.ensures ∙ sym (ik_agrees s.args.file.now s.args.at _ (sym n.compare_ik_name.ensures ∙ ap compared_is e.enum_told-1.given.1)).1
+    c.compare_flag.ensures ∙ sym (ik_agrees c.args.file.now c.args.at _ (sym c.compare_ik_name.ensures ∙ ap compared_is c.in-Same.is)).1

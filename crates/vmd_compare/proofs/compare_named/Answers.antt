@@ -8,19 +8,12 @@ use Rattle.vmd_compare.proofs.compare_named.Goals as goal
 
 pub returns-then-is_plain_name : goal.returns-then-is_plain_name
 returns-then-is_plain_name c =
-    let i = c.before in
-    let s = i.before.before in
-    sym (named_agrees s.args.file.now s.args.at s.args.size _ s.requires.0 s.requires.1 (name_agrees s.args.file.now s.args.at 15 (omega arith) (i.is_plain_name.ensures c.if-is_plain_name.true)))
+    sym (named_agrees c.args.file.now c.args.at c.args.size _ c.requires.0 c.requires.1 (name_agrees c.args.file.now c.args.at 15 (omega arith) (c.is_plain_name.ensures c.if-is_plain_name.true)))
 
 pub returns-in-Differs : goal.returns-in-Differs
 returns-in-Differs c =
-    let a = c.before in
-    let n = a.before.before in
-    let s = n.before.before.before.before in
-    sym (named_differs s.args.file.now s.args.at s.args.size _ (sym n.compare_name.ensures ∙ ap compared_is a.q-1.given.1))
+    sym (named_differs c.args.file.now c.args.at c.args.size _ (sym c.compare_name.ensures ∙ ap compared_is c.in-Differs.is))
 
 pub returns-in-Same : goal.returns-in-Same
 returns-in-Same c =
-    let n = c.before.before in
-    let s = n.before.before.before.before in
-    sym (named_agrees s.args.file.now s.args.at s.args.size _ s.requires.0 s.requires.1 (sym n.compare_name.ensures ∙ ap compared_is c.enum_told-1.given.1))
+    sym (named_agrees c.args.file.now c.args.at c.args.size _ c.requires.0 c.requires.1 (sym c.compare_name.ensures ∙ ap compared_is c.in-Same.is))

@@ -8,24 +8,18 @@ pub loop-left-init : goal.loop-left-init
 loop-left-init c = left_start c.args.file.now _ c.args.size c.args.at c.args.n c.requires.1
 
 pub compare_named-requires : goal.compare_named-requires
-compare_named-requires c κs = (c.requires.0, left_room c.loop-left.invariant (omega arith))
+compare_named-requires c = (c.requires.0, left_room c.loop-left.invariant (omega arith))
 
 pub returns-in-Differs : goal.returns-in-Differs
 returns-in-Differs c =
-    let a = c.before in
-    let b = a.before.before in
-    let l = b.before.before in
-    left_differs l.loop-left.invariant (omega arith) a.q-1.given.0.0 (ap compared_is (sym a.q-1.given.1) ∙ b.compare_named.ensures)
+    left_differs c.loop-left.invariant (omega arith) c.in-Differs.q (ap compared_is (sym c.in-Differs.is) ∙ c.compare_named.ensures)
 
 pub overflow_add-p : goal.overflow_add-p
 overflow_add-p c = omega (arith, left_room c.loop-left.invariant (omega arith))
 
 pub loop-left-preserved : goal.loop-left-preserved
 loop-left-preserved c =
-    let a = c.before.before in
-    let l = a.before.before in
-    let s = l.before.before in
-    left_turn l.loop-left.invariant (omega arith) (named_length s.args.file.now l.loop-left.p s.args.size s.requires.0 (left_room l.loop-left.invariant (omega arith))) c.enum_told-1.given.0.0 (ap compared_is (sym c.enum_told-1.given.1) ∙ a.compare_named.ensures)
+    left_turn c.loop-left.invariant (omega arith) (named_length c.args.file.now c.loop-left.p c.args.size c.requires.0 (left_room c.loop-left.invariant (omega arith))) c.in_default.field-0 (ap compared_is (sym c.in_default.is) ∙ c.compare_named.ensures)
 
 pub returns : goal.returns
 returns c = left_done c.loop-left.invariant (omega arith)

@@ -7,69 +7,49 @@ use Rattle.vmd_laws.specs.Rewriting.{light_rewrites, self_shadow_rewrites}
 use Rattle.vmd_compare.proofs.compare_records.Goals as goal
 
 pub compare_named_rows-requires : goal.compare_named_rows-requires
-compare_named_rows-requires c κs =
-    let s = c.before.before.before in
-    (omega arith, rw c.enum_told-1.given.1 at s.requires)
+compare_named_rows-requires c =
+    (omega arith, rw c.in-Bone.is at c.requires)
 
 pub compare_named_rows-requires-in-Morph : goal.compare_named_rows-requires-in-Morph
-compare_named_rows-requires-in-Morph c κs =
-    let s = c.before.before.before in
-    (omega arith, rw c.enum_told-in-Morph-1.given.1 at s.requires)
+compare_named_rows-requires-in-Morph c =
+    (omega arith, rw c.in-Morph.is at c.requires)
 
 pub compare_cameras-requires : goal.compare_cameras-requires
-compare_cameras-requires c κs =
-    let s = c.before.before.before in
-    rw c.enum_told-in-Camera-1.given.1 at s.requires
+compare_cameras-requires c =
+    rw c.in-Camera.is at c.requires
 
 pub overflow_mul-result : goal.overflow_mul-result
 overflow_mul-result c =
-    let s = c.before.before.before in
-    let h = rw c.enum_told-in-Light-1.given.1 at s.requires in omega (arith, h)
+    let h = rw c.in-Light.is at c.requires in omega (arith, h)
 
 pub overflow_add-result : goal.overflow_add-result
 overflow_add-result c =
-    let s = c.before.before.before in
-    let h = rw c.enum_told-in-Light-1.given.1 at s.requires in omega (arith, h)
+    let h = rw c.in-Light.is at c.requires in omega (arith, h)
 
 pub overflow_mul-result-in-SelfShadow : goal.overflow_mul-result-in-SelfShadow
 overflow_mul-result-in-SelfShadow c =
-    let s = c.before.before.before in
-    let h = rw c.enum_told-in-SelfShadow-1.given.1 at s.requires in omega (arith, h)
+    let h = rw c.in-SelfShadow.is at c.requires in omega (arith, h)
 
 pub overflow_add-result-in-SelfShadow : goal.overflow_add-result-in-SelfShadow
 overflow_add-result-in-SelfShadow c =
-    let s = c.before.before.before in
-    let h = rw c.enum_told-in-SelfShadow-1.given.1 at s.requires in omega (arith, h)
+    let h = rw c.in-SelfShadow.is at c.requires in omega (arith, h)
 
 pub returns-in-Bone : goal.returns-in-Bone
 returns-in-Bone c =
-    let e = c.before in
-    let s = e.before.before in
-    let a = s.before in
-    rw e.enum_told-1.given.1 (c.compare_named_rows.ensures ∙ sym (ap (compare_at a.args.file.now a.args.at) (bone_rows a.args.file.now (λ i. (s.shared_slice_known-1.given i).fits) a.args.n a.args.at (rw e.enum_told-1.given.1 at a.requires))))
+    rw c.in-Bone.is (c.compare_named_rows.ensures ∙ sym (ap (compare_at c.args.file.now c.args.at) (bone_rows c.args.file.now (λ i. (c.shared_slice_known-1.given i).fits) c.args.n c.args.at (rw c.in-Bone.is at c.requires))))
 
 pub returns-in-Morph : goal.returns-in-Morph
 returns-in-Morph c =
-    let e = c.before in
-    let s = e.before.before in
-    let a = s.before in
-    rw e.enum_told-in-Morph-1.given.1 (c.compare_named_rows-in-Morph.ensures ∙ sym (ap (compare_at a.args.file.now a.args.at) (morph_rows a.args.file.now (λ i. (s.shared_slice_known-1.given i).fits) a.args.n a.args.at (rw e.enum_told-in-Morph-1.given.1 at a.requires))))
+    rw c.in-Morph.is (c.compare_named_rows-in-Morph.ensures ∙ sym (ap (compare_at c.args.file.now c.args.at) (morph_rows c.args.file.now (λ i. (c.shared_slice_known-1.given i).fits) c.args.n c.args.at (rw c.in-Morph.is at c.requires))))
 
 pub returns-in-Camera : goal.returns-in-Camera
 returns-in-Camera c =
-    let e = c.before in
-    let s = e.before.before in
-    let a = s.before in
-    rw e.enum_told-in-Camera-1.given.1 (c.compare_cameras.ensures ∙ sym (ap (compare_at a.args.file.now a.args.at) (camera_rows a.args.file.now (λ i. (s.shared_slice_known-1.given i).fits) a.args.n a.args.at (rw e.enum_told-in-Camera-1.given.1 at a.requires))))
+    rw c.in-Camera.is (c.compare_cameras.ensures ∙ sym (ap (compare_at c.args.file.now c.args.at) (camera_rows c.args.file.now (λ i. (c.shared_slice_known-1.given i).fits) c.args.n c.args.at (rw c.in-Camera.is at c.requires))))
 
 pub returns-in-Light : goal.returns-in-Light
 returns-in-Light c =
-    let s = c.before.before in
-    let a = s.before in
-    rw c.enum_told-in-Light-1.given.1 (sym (section_agrees a.args.file.now (λ i. (s.shared_slice_known-1.given i).fits) light_rewrites a.args.n a.args.at (rw c.enum_told-in-Light-1.given.1 at a.requires)))
+    rw c.in-Light.is (sym (section_agrees c.args.file.now (λ i. (c.shared_slice_known-1.given i).fits) light_rewrites c.args.n c.args.at (rw c.in-Light.is at c.requires)))
 
 pub returns-in-SelfShadow : goal.returns-in-SelfShadow
 returns-in-SelfShadow c =
-    let s = c.before.before in
-    let a = s.before in
-    rw c.enum_told-in-SelfShadow-1.given.1 (sym (section_agrees a.args.file.now (λ i. (s.shared_slice_known-1.given i).fits) self_shadow_rewrites a.args.n a.args.at (rw c.enum_told-in-SelfShadow-1.given.1 at a.requires)))
+    rw c.in-SelfShadow.is (sym (section_agrees c.args.file.now (λ i. (c.shared_slice_known-1.given i).fits) self_shadow_rewrites c.args.n c.args.at (rw c.in-SelfShadow.is at c.requires)))

@@ -9,15 +9,11 @@ loop-left-init c = (c.requires, refl)
 
 pub returns-then-file-p-ne0 : goal.returns-then-file-p-ne0
 returns-then-file-p-ne0 c =
-    let l = c.before.before.before in
-    let s = l.before in
-    sym (l.loop-left.invariant.1 ∙ zeros_differ s.args.file.now l.loop-left.p l.loop-left.left (omega arith) (omega arith) c.if-file-p-ne0.true)
+    sym (c.loop-left.invariant.1 ∙ zeros_differ c.args.file.now c.loop-left.p c.loop-left.left (omega arith) (omega arith) c.if-file-p-ne0.true)
 
 pub loop-left-preserved : goal.loop-left-preserved
 loop-left-preserved c =
-    let l = c.before.before.before in
-    let s = l.before in
-    (omega arith, l.loop-left.invariant.1 ∙ zeros_agree s.args.file.now l.loop-left.p l.loop-left.left (omega arith) (omega arith) c.if-file-p-ne0.false)
+    (omega arith, c.loop-left.invariant.1 ∙ zeros_agree c.args.file.now c.loop-left.p c.loop-left.left (omega arith) (omega arith) c.if-file-p-ne0.false)
 
 pub returns : goal.returns
 returns c = sym (c.loop-left.invariant.1 ∙ zeros_done c.args.file.now c.loop-left.p c.loop-left.left (omega arith))

@@ -7,10 +7,7 @@ use Rattle.vmd_compare.proofs.is_plain_name.Goals as goal
 
 pub returns-then-first : goal.returns-then-first
 returns-then-first c =
-    let i = c.before in
-    let w = i.before in
-    let s = w.before.before in
-    λ e. zeros_overlap s.args.file.now s.args.at 7 8 (omega arith) (w.is_plain_word-first.ensures c.if-first.true) (i.is_plain_word-second.ensures e)
+    λ e. zeros_overlap c.args.file.now c.args.at 7 8 (omega arith) (c.is_plain_word-first.ensures c.if-first.true) (c.is_plain_word-second.ensures e)
 
 pub returns-else-first : goal.returns-else-first
 returns-else-first c = λ e. let z : ◌≡◌ {A = ℕ} 0 1 = cc in absurd (omega arith)

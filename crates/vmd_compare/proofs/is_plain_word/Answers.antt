@@ -6,6 +6,4 @@ use Rattle.vmd_compare.proofs.is_plain_word.Goals as goal
 
 pub returns : goal.returns
 returns c =
-    let w = c.before in
-    let s = w.before.before in
-    λ e. plain_word s.args.file.now s.args.at w.word_at-x.result c.canonical_word.result (omega arith) w.word_at-x.ensures c.canonical_word.ensures (eqb-true _ _ e)
+    λ e. plain_word c.args.file.now c.args.at c.word_at-x.result c.canonical_word.result (omega arith) c.word_at-x.ensures c.canonical_word.ensures (eqb-true _ _ e)

@@ -10,6 +10,5 @@ returns-then-floor-eq0 c =
 
 pub returns : goal.returns
 returns c =
-    let i = c.before in
-    let a = i.args in
-    above_some (key a.cut a.s.now a.at a.size a.n) a.floor a.x _ i.if-floor-eq0.false c.name_before.ensures
+    let a = c.args in
+    above_some (key a.cut a.s.now a.at a.size a.n) a.floor a.x _ c.if-floor-eq0.false c.name_before.ensures

@@ -9,6 +9,5 @@ returns-then-j-eq0 c = start c.if-j-eq0.true
 
 pub returns : goal.returns
 returns c =
-    let i = c.before.before in
-    let a = i.args in
-    fresh_later (key a.cut a.s.now a.at a.size a.n) a.a.now a.j a.x _ i.if-j-eq0.false c.same_name.ensures
+    let a = c.args in
+    fresh_later (key a.cut a.s.now a.at a.size a.n) a.a.now a.j a.x _ c.if-j-eq0.false c.same_name.ensures

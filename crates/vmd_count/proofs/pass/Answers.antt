@@ -11,11 +11,9 @@ loop-i-init c =
     (omega arith, omega arith, refl, refl, holds_start (key a.cut a.s.now a.at a.size a.n) a.floor a.a.now)
 
 pub offer-held-requires : goal.offer-held-requires
-offer-held-requires c κs =
-    let a = c.before.before.before in
-    let s = a.before.before.before.before in
-    let l = a.loop-i in
-    let p = s.requires in
+offer-held-requires c =
+    let l = c.loop-i in
+    let p = c.requires in
     (omega arith, omega arith, p.2, p.3, p.4, omega arith, omega arith, l.invariant.4)
 
 pub loop-i-preserved : goal.loop-i-preserved
@@ -30,9 +28,7 @@ shape_of-cache c = c.loop-i.invariant.3
 
 pub returns : goal.returns
 returns c =
-    let b = c.before in
-    let s = b.before.before.before.before in
-    let l = b.loop-i in
-    let a = s.args in
+    let l = c.loop-i in
+    let a = c.args in
     let e : l.i ≡ a.n = omega arith in
     (rw e at l.invariant.4, l.invariant.1)

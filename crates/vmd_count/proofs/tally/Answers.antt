@@ -8,26 +8,19 @@ use Rattle.vmd_count.proofs.HeldLaws.{sorted_row, low_high}
 use Rattle.vmd_count.proofs.tally.Goals as goal
 
 pub keep_firsts-k-requires : goal.keep_firsts-k-requires
-keep_firsts-k-requires c κs =
-    let b = c.before in
-    let r = b.before.before in
-    let d = r.before.before.before.before in
-    let a = d.args in
-    let p = d.requires in
-    (omega arith, p.2, rank_key a.cut a.s.now a.at a.size a.n _ _ (λ k. omega (arith, b.slice_known-2-1.given k)) r.sort_records.ensures.0)
+keep_firsts-k-requires c =
+    let a = c.args in
+    let p = c.requires in
+    (omega arith, p.2, rank_key a.cut a.s.now a.at a.size a.n _ _ (λ k. omega (arith, c.slice_known-2-1.given k)) c.sort_records.ensures.0)
 
 pub returns : goal.returns
 returns c =
-    let f = c.before.before.before.before in
-    let b = f.before.before.before.before in
-    let d = b.before.before in
-    let e = d.before.before in
-    let a = e.args in
+    let a = c.args in
     let s = a.s.now in
-    let bs : Bytes s = λ k. omega (arith, d.shared_slice_known-1.given k) in
-    let r = sorted_row (key a.cut a.s.now a.at a.size a.n) e.requires.3 b.sort_records.ensures.1 f.keep_firsts-k.ensures in
-    let q = low_high (key a.cut a.s.now a.at a.size a.n) a.floor (key_top a.cut s a.at a.size a.n bs) e.requires.3.marked in
-    let k = f.keep_firsts-k.ensures.behind in
+    let bs : Bytes s = λ k. omega (arith, c.shared_slice_known-1.given k) in
+    let r = sorted_row (key a.cut a.s.now a.at a.size a.n) c.requires.3 c.sort_records.ensures.1 c.keep_firsts-k.ensures in
+    let q = low_high (key a.cut a.s.now a.at a.size a.n) a.floor (key_top a.cut s a.at a.size a.n bs) c.requires.3.marked in
+    let k = c.keep_firsts-k.ensures.behind in
     let w = c.weigh-bytes.ensures in
     record {
       names-add = row_names a.cut s a.at a.size a.n bs _ _ _ _ r q;

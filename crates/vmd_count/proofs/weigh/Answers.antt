@@ -9,17 +9,15 @@ loop-i-init c =
     let a = c.args in (omega arith, sum_start a.cut a.s.now a.at a.size a.n a.a.now, omega arith)
 
 pub name_size-sum-requires : goal.name_size-sum-requires
-name_size-sum-requires c κs = c.requires.2
+name_size-sum-requires c = c.requires.2
 
 pub overflow_add-sum : goal.overflow_add-sum
 overflow_add-sum c = omega (arith, c.name_size-sum.ensures.1)
 
 pub loop-i-preserved : goal.loop-i-preserved
 loop-i-preserved c =
-    let b = c.before.before.before in
-    let d = b.before.before.before in
-    let a = d.args in
-    let l = b.loop-i in
+    let a = c.args in
+    let l = c.loop-i in
     let e = c.name_size-sum.ensures in (
       omega arith,
       sum_turn a.cut a.s.now a.at a.size a.n l.i l.sum _ a.a.now l.invariant.1 e.0,
@@ -28,9 +26,7 @@ loop-i-preserved c =
 
 pub returns : goal.returns
 returns c =
-    let b = c.before in
-    let s = b.before.before.before in
-    let a = s.args in
-    let l = b.loop-i in
+    let a = c.args in
+    let l = c.loop-i in
     let e : l.i ≡ a.k = omega arith in
     (rw e at l.invariant.1, omega arith)

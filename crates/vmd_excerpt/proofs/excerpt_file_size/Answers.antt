@@ -12,27 +12,17 @@ use Rattle.vmd_excerpt.proofs.excerpt_file_size.Goals as goal
 
 pub returns-then-last-first : goal.returns-then-last-first
 returns-then-last-first c =
-    let s = c.before.before in
-    refused_answer _ _ _ (file_above (manner_of s.args.manner) s.args.first s.args.last s.args.file.now (omega arith))
+    refused_answer _ _ _ (file_above (manner_of c.args.manner) c.args.first c.args.last c.args.file.now (omega arith))
 
 pub counted_size-requires : goal.counted_size-requires
-counted_size-requires c κs =
-    let a = c.before in
-    let s = a.before.before in
-    let b = s.before.before.before in
-    scan_scanned (manner_of b.args.manner) b.args.file.now _ (heard scan_answer s.scan_file.ensures a.x-1.given.1)
+counted_size-requires c =
+    scan_scanned (manner_of c.args.manner) c.args.file.now _ (heard scan_answer c.scan_file.ensures c.in-Scanned.is)
 
 pub returns-in-Refused : goal.returns-in-Refused
 returns-in-Refused c =
-    let a = c.before in
-    let s = a.before.before in
-    let b = s.before.before.before in
-    refused_answer _ _ _ (file_refused (manner_of b.args.manner) b.args.first b.args.last b.args.file.now (omega arith) _ (heard scan_answer s.scan_file.ensures a.k-1.given.1))
+    refused_answer _ _ _ (file_refused (manner_of c.args.manner) c.args.first c.args.last c.args.file.now (omega arith) _ (heard scan_answer c.scan_file.ensures c.in-Refused.is))
 
 pub returns-in-Scanned : goal.returns-in-Scanned
 returns-in-Scanned c =
-    let a = c.before.before in
-    let s = a.before.before in
-    let b = s.before.before.before in
-    c.counted_size.ensures ∙ given_answer (bytes b.args.first b.args.last b.args.file.now (scan_is a.x-1.given.0.0)) refl 18446744073709551615
-    ∙ ap (λ w. map_answer length (fitted 18446744073709551615 w)) (file_scanned (manner_of b.args.manner) b.args.first b.args.last b.args.file.now (omega arith) _ (heard scan_answer s.scan_file.ensures a.x-1.given.1))
+    c.counted_size.ensures ∙ given_answer (bytes c.args.first c.args.last c.args.file.now (scan_is c.in-Scanned.x)) refl 18446744073709551615
+    ∙ ap (λ w. map_answer length (fitted 18446744073709551615 w)) (file_scanned (manner_of c.args.manner) c.args.first c.args.last c.args.file.now (omega arith) _ (heard scan_answer c.scan_file.ensures c.in-Scanned.is))

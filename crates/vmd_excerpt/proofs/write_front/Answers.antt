@@ -7,44 +7,34 @@ use Rattle.vmd_excerpt.specs.Stages.{morph_bytes, camera_bytes}
 use Rattle.vmd_excerpt.proofs.write_front.Goals as goal
 
 pub write_section-p-requires : goal.write_section-p-requires
-write_section-p-requires c κs =
-    let a = c.before.before.before in
-    let s = a.args.s.now in
-    let x = scan_is a.args.x in
-    let r = front_rest a.args.first a.args.last s x a.requires.1 in
-    (a.requires.0.inside.bones, rest_room (morph_bytes a.args.first a.args.last s x ++ camera_bytes a.args.first a.args.last s x) r)
+write_section-p-requires c =
+    let s = c.args.s.now in
+    let x = scan_is c.args.x in
+    let r = front_rest c.args.first c.args.last s x c.requires.1 in
+    (c.requires.0.inside.bones, rest_room (morph_bytes c.args.first c.args.last s x ++ camera_bytes c.args.first c.args.last s x) r)
 
 pub write_section-q-requires : goal.write_section-q-requires
-write_section-q-requires c κs =
-    let w = c.before.before.before in
-    let a = w.before.before.before.before in
-    let s = a.args.s.now in
-    let x = scan_is a.args.x in
-    let r = front_rest a.args.first a.args.last s x a.requires.1 in
-    let q = rest_then (morph_bytes a.args.first a.args.last s x ++ camera_bytes a.args.first a.args.last s x) r w.write_section-p.ensures in
-    (a.requires.0.inside.morphs, rest_room (camera_bytes a.args.first a.args.last s x) q)
+write_section-q-requires c =
+    let s = c.args.s.now in
+    let x = scan_is c.args.x in
+    let r = front_rest c.args.first c.args.last s x c.requires.1 in
+    let q = rest_then (morph_bytes c.args.first c.args.last s x ++ camera_bytes c.args.first c.args.last s x) r c.write_section-p.ensures in
+    (c.requires.0.inside.morphs, rest_room (camera_bytes c.args.first c.args.last s x) q)
 
 pub write_section-requires : goal.write_section-requires
-write_section-requires c κs =
-    let w = c.before.before.before in
-    let a = w.before.before.before.before in
-    let b = a.before.before.before.before in
-    let s = b.args.s.now in
-    let x = scan_is b.args.x in
-    let r = front_rest b.args.first b.args.last s x b.requires.1 in
-    let q = rest_then (morph_bytes b.args.first b.args.last s x ++ camera_bytes b.args.first b.args.last s x) r a.write_section-p.ensures in
-    let t = rest_then (camera_bytes b.args.first b.args.last s x) q w.write_section-q.ensures in
-    (b.requires.0.inside.cameras, t.room)
+write_section-requires c =
+    let s = c.args.s.now in
+    let x = scan_is c.args.x in
+    let r = front_rest c.args.first c.args.last s x c.requires.1 in
+    let q = rest_then (morph_bytes c.args.first c.args.last s x ++ camera_bytes c.args.first c.args.last s x) r c.write_section-p.ensures in
+    let t = rest_then (camera_bytes c.args.first c.args.last s x) q c.write_section-q.ensures in
+    (c.requires.0.inside.cameras, t.room)
 
 pub returns : goal.returns
 returns c =
-    let w = c.before.before in
-    let a = w.before.before.before.before in
-    let b = a.before.before.before.before in
-    let d = b.before.before.before.before in
-    let s = d.args.s.now in
-    let x = scan_is d.args.x in
-    let r = front_rest d.args.first d.args.last s x d.requires.1 in
-    let q = rest_then (morph_bytes d.args.first d.args.last s x ++ camera_bytes d.args.first d.args.last s x) r b.write_section-p.ensures in
-    let t = rest_then (camera_bytes d.args.first d.args.last s x) q a.write_section-q.ensures in
-    rest_done t w.write_section.ensures
+    let s = c.args.s.now in
+    let x = scan_is c.args.x in
+    let r = front_rest c.args.first c.args.last s x c.requires.1 in
+    let q = rest_then (morph_bytes c.args.first c.args.last s x ++ camera_bytes c.args.first c.args.last s x) r c.write_section-p.ensures in
+    let t = rest_then (camera_bytes c.args.first c.args.last s x) q c.write_section-q.ensures in
+    rest_done t c.write_section.ensures

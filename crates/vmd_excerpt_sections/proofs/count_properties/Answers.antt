@@ -17,22 +17,22 @@ pub loop-left-init : goal.loop-left-init
 loop-left-init c = (c.requires, omega arith, omega arith, omega arith, omega arith)
 
 pub read_u32_le-requires : goal.read_u32_le-requires
-read_u32_le-requires c κs = let r = (reaches_first c.args.s.now c.loop-left.left c.loop-left.p (omega arith) c.loop-left.invariant.0).0 in unfold next_frame in (omega arith)
+read_u32_le-requires c = let r = (reaches_first c.args.s.now c.loop-left.left c.loop-left.p (omega arith) c.loop-left.invariant.0).0 in unfold next_frame in (omega arith)
 
 pub overflow_add-p : goal.overflow_add-p
 overflow_add-p c = let r = (reaches_first c.args.s.now c.loop-left.left c.loop-left.p (omega arith) c.loop-left.invariant.0).0 in unfold next_frame in (omega arith)
 
 pub read_u32_le-here-requires : goal.read_u32_le-here-requires
-read_u32_le-here-requires c κs = let r = (reaches_first c.args.s.now c.loop-left.left c.loop-left.p (omega arith) c.loop-left.invariant.0).0 in unfold next_frame in (omega arith)
+read_u32_le-here-requires c = let r = (reaches_first c.args.s.now c.loop-left.left c.loop-left.p (omega arith) c.loop-left.invariant.0).0 in unfold next_frame in (omega arith)
 
 pub next_if-kept-requires : goal.next_if-kept-requires
-next_if-kept-requires c κs = omega (arith, c.loop-left.invariant.2, frames_few c.args.first c.args.last c.args.s.now c.args.x.count c.args.x.place)
+next_if-kept-requires c = omega (arith, c.loop-left.invariant.2, frames_few c.args.first c.args.last c.args.s.now c.args.x.count c.args.x.place)
 
 pub overflow_add-states : goal.overflow_add-states
 overflow_add-states c = omega (arith, c.loop-left.invariant.4, c.states_if-states.ensures, number_most c.is_between-on.result c.read_u32_le-here.result)
 
 pub next_property_frame-p-requires : goal.next_property_frame-p-requires
-next_property_frame-p-requires c κs = (reaches_first c.args.s.now c.loop-left.left c.loop-left.p (omega arith) c.loop-left.invariant.0).0
+next_property_frame-p-requires c = (reaches_first c.args.s.now c.loop-left.left c.loop-left.p (omega arith) c.loop-left.invariant.0).0
 
 pub loop-left-preserved : goal.loop-left-preserved
 unfolding kept_frames property_in property_framed

@@ -15,10 +15,10 @@ pub loop-left-init : goal.loop-left-init
 loop-left-init c = (c.size-size.ensures, c.requires.ends, omega arith, omega arith)
 
 pub frame_at-requires : goal.frame_at-requires
-frame_at-requires c κs = omega (arith, c.loop-left.invariant.1, less_one c.loop-left.left (size_of c.args.kind) (omega arith))
+frame_at-requires c = omega (arith, c.loop-left.invariant.1, less_one c.loop-left.left (size_of c.args.kind) (omega arith))
 
 pub next_if-kept-requires : goal.next_if-kept-requires
-next_if-kept-requires c κs = omega (arith, c.loop-left.invariant.3, rows_few c.args.kind c.args.first c.args.last c.args.s.now c.args.x.count c.args.x.place)
+next_if-kept-requires c = omega (arith, c.loop-left.invariant.3, rows_few c.args.kind c.args.first c.args.last c.args.s.now c.args.x.count c.args.x.place)
 
 pub overflow_add-p : goal.overflow_add-p
 overflow_add-p c = omega (arith, c.loop-left.invariant.0, c.loop-left.invariant.1, less_one c.loop-left.left (size_of c.args.kind) (omega arith))

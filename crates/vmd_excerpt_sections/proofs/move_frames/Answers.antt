@@ -9,7 +9,7 @@ pub loop-left-init : goal.loop-left-init
 loop-left-init c = (c.size-size.ensures, c.frame_offset-offset.ensures, moving_start c.args.kind c.args.first c.args.n c.args.at c.requires.0 c.requires.1 c.requires.2 c.requires.3)
 
 pub frame_at-frame-requires : goal.frame_at-frame-requires
-frame_at-frame-requires c κs = omega (arith, c.loop-left.invariant.2.lie, less_one c.loop-left.left (size_of c.args.kind) (omega arith))
+frame_at-frame-requires c = omega (arith, c.loop-left.invariant.2.lie, less_one c.loop-left.left (size_of c.args.kind) (omega arith))
 
 pub overflow_add-q : goal.overflow_add-q
 overflow_add-q c = omega (arith, c.loop-left.invariant.1, c.loop-left.invariant.2.room, less_one c.loop-left.left (size_of c.args.kind) (omega arith), frame_fits c.args.kind)
@@ -18,7 +18,7 @@ pub overflow_sub-frame : goal.overflow_sub-frame
 overflow_sub-frame c = omega (arith, c.frame_at-frame.ensures, moving_frame c.args.kind c.args.first c.loop-left.invariant.2 (omega arith))
 
 pub write_u32_le-requires : goal.write_u32_le-requires
-write_u32_le-requires c κs = omega (arith, c.loop-left.invariant.1, c.loop-left.invariant.2.room, less_one c.loop-left.left (size_of c.args.kind) (omega arith), frame_fits c.args.kind)
+write_u32_le-requires c = omega (arith, c.loop-left.invariant.1, c.loop-left.invariant.2.room, less_one c.loop-left.left (size_of c.args.kind) (omega arith), frame_fits c.args.kind)
 
 pub overflow_add-p : goal.overflow_add-p
 overflow_add-p c = omega (arith, c.loop-left.invariant.0, c.loop-left.invariant.2.lie, less_one c.loop-left.left (size_of c.args.kind) (omega arith))

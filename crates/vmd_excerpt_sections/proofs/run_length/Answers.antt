@@ -25,7 +25,7 @@ pub loop-k-init : goal.loop-k-init
 loop-k-init c = (c.size-size.ensures, omega arith, c.requires.0, omega (arith, c.size-size.ensures), run_start c.args.kind c.args.s.now c.args.at c.args.first c.args.last c.args.on c.requires.2)
 
 pub frame_at-requires : goal.frame_at-requires
-frame_at-requires c κs = let i = c.loop-k.invariant in rw i.3 (lies_on (size_of c.args.kind) c.args.at c.loop-k.k c.args.n (length c.args.s.now) (omega arith) c.requires.1)
+frame_at-requires c = let i = c.loop-k.invariant in rw i.3 (lies_on (size_of c.args.kind) c.args.at c.loop-k.k c.args.n (length c.args.s.now) (omega arith) c.requires.1)
 
 pub returns-then-is_between-on : goal.returns-then-is_between-on
 returns-then-is_between-on c = let i = c.loop-k.invariant in (i.1, i.2, i.4)

@@ -18,13 +18,13 @@ unfolding kept_rows
 loop-left-init c = (c.size-size.ensures, c.requires.0.ends, keeping_start c.requires.1)
 
 pub frame_at-requires : goal.frame_at-requires
-frame_at-requires c κs = omega (arith, c.loop-left.invariant.1, less_one c.loop-left.left (size_of c.args.kind) (omega arith))
+frame_at-requires c = omega (arith, c.loop-left.invariant.1, less_one c.loop-left.left (size_of c.args.kind) (omega arith))
 
 pub run_length-n-requires : goal.run_length-n-requires
-run_length-n-requires c κs = (omega (arith, c.smaller.ensures), omega (arith, c.loop-left.invariant.1, fewer (size_of c.args.kind) c.smaller.result c.loop-left.left (omega (arith, c.smaller.ensures))), c.is_between-on.ensures ∙ ap (between c.args.first c.args.last) c.frame_at.ensures)
+run_length-n-requires c = (omega (arith, c.smaller.ensures), omega (arith, c.loop-left.invariant.1, fewer (size_of c.args.kind) c.smaller.result c.loop-left.left (omega (arith, c.smaller.ensures))), c.is_between-on.ensures ∙ ap (between c.args.first c.args.last) c.frame_at.ensures)
 
 pub write_run-q-requires : goal.write_run-q-requires
-write_run-q-requires c κs = let k = c.args.kind in
+write_run-q-requires c = let k = c.args.kind in
     let s = c.args.s.now in
     let n = c.run_length-n.result in
     let m : n ≤ c.loop-left.left = omega (arith, c.smaller.ensures, c.run_length-n.ensures.1) in

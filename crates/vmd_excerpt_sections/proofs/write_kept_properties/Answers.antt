@@ -19,11 +19,11 @@ loop-left-init c = (c.requires.0, keeping_start c.requires.1)
 
 pub read_u32_le-requires : goal.read_u32_le-requires
 unfolding next_frame
-read_u32_le-requires c κs = let r = (reaches_first c.args.s.now c.loop-left.left c.loop-left.p (omega arith) c.loop-left.invariant.0).0 in omega arith
+read_u32_le-requires c = let r = (reaches_first c.args.s.now c.loop-left.left c.loop-left.p (omega arith) c.loop-left.invariant.0).0 in omega arith
 
 pub write_moved_property-q-requires : goal.write_moved_property-q-requires
 unfolding property_in property_framed
-write_moved_property-q-requires c κs = let s = c.args.s.now in
+write_moved_property-q-requires c = let s = c.args.s.now in
     let f = frames_first s c.loop-left.left c.loop-left.p (omega arith) in
     let e = ap (between c.args.first c.args.last) (sym c.read_u32_le.ensures) ∙ sym c.is_between.ensures ∙ c.if-is_between.true in
     let h = (reaches_first s c.loop-left.left c.loop-left.p (omega arith) c.loop-left.invariant.0).0 in
@@ -37,7 +37,7 @@ overflow_add-kept c = let s = c.args.s.now in
     omega (arith, one_more (property_in s c.loop-left.p) (frames_in s (c.loop-left.left - 1) (next_frame s c.loop-left.p)) c.loop-left.invariant.1 f e, frames_few c.args.first c.args.last s c.args.x.count c.args.x.place)
 
 pub next_property_frame-p-requires : goal.next_property_frame-p-requires
-next_property_frame-p-requires c κs = (reaches_first c.args.s.now c.loop-left.left c.loop-left.p (omega arith) c.loop-left.invariant.0).0
+next_property_frame-p-requires c = (reaches_first c.args.s.now c.loop-left.left c.loop-left.p (omega arith) c.loop-left.invariant.0).0
 
 pub loop-left-preserved : goal.loop-left-preserved
 unfolding property_in property_framed

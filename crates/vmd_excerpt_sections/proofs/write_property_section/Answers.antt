@@ -7,23 +7,16 @@ use Rattle.vmd_excerpt_sections.proofs.write_property_section.Goals as goal
 
 pub overflow_add-to : goal.overflow_add-to
 overflow_add-to c =
-    let a = c.before.before.before in
-    omega (arith, (counted_room property (kept_frames a.args.first a.args.last a.args.s.now a.args.x.count a.args.x.place) a.requires.1).room)
+    omega (arith, (counted_room property (kept_frames c.args.first c.args.last c.args.s.now c.args.x.count c.args.x.place) c.requires.1).room)
 
 pub write_kept_properties-frames-requires : goal.write_kept_properties-frames-requires
-write_kept_properties-frames-requires c κs =
-    let p = c.before.before.before in
-    (p.requires.0, counted_room property (kept_frames p.args.first p.args.last p.args.s.now p.args.x.count p.args.x.place) p.requires.1)
+write_kept_properties-frames-requires c =
+    (c.requires.0, counted_room property (kept_frames c.args.first c.args.last c.args.s.now c.args.x.count c.args.x.place) c.requires.1)
 
 pub write_u32_le-requires : goal.write_u32_le-requires
-write_u32_le-requires c κs =
-    let w = c.before.before.before in
-    let a = w.before.before.before.before in
-    omega (arith, counted_length property (kept_frames a.args.first a.args.last a.args.s.now a.args.x.count a.args.x.place) a.requires.1 w.write_kept_properties-frames.ensures.0, (counted_room property (kept_frames a.args.first a.args.last a.args.s.now a.args.x.count a.args.x.place) a.requires.1).room)
+write_u32_le-requires c =
+    omega (arith, counted_length property (kept_frames c.args.first c.args.last c.args.s.now c.args.x.count c.args.x.place) c.requires.1 c.write_kept_properties-frames.ensures.0, (counted_room property (kept_frames c.args.first c.args.last c.args.s.now c.args.x.count c.args.x.place) c.requires.1).room)
 
 pub returns : goal.returns
 returns c =
-    let w = c.before.before in
-    let p = w.before.before.before.before in
-    let a = p.before.before.before.before in
-    counted_written property (kept_frames a.args.first a.args.last a.args.s.now a.args.x.count a.args.x.place) a.requires.1 p.write_kept_properties-frames.ensures.0 p.write_kept_properties-frames.ensures.1 w.write_u32_le.ensures
+    counted_written property (kept_frames c.args.first c.args.last c.args.s.now c.args.x.count c.args.x.place) c.requires.1 c.write_kept_properties-frames.ensures.0 c.write_kept_properties-frames.ensures.1 c.write_u32_le.ensures

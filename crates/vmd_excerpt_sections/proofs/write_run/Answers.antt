@@ -11,23 +11,17 @@ use Rattle.vmd_excerpt_sections.specs.Rows.{rows}
 use Rattle.vmd_excerpt_sections.proofs.write_run.Goals as goal
 
 pub write_records-end-requires : goal.write_records-end-requires
-write_records-end-requires c κs =
-    let p = c.before.before.before in
-    (p.requires.0, record { room = omega (arith, p.requires.2.room, moved_wide p.args.kind p.args.first (rows p.args.kind p.args.s.now p.args.n p.args.at)) })
+write_records-end-requires c =
+    (c.requires.0, record { room = omega (arith, c.requires.2.room, moved_wide c.args.kind c.args.first (rows c.args.kind c.args.s.now c.args.n c.args.at)) })
 
 pub move_frames-requires : goal.move_frames-requires
-move_frames-requires c κs =
-    let w = c.before.before.before in
-    let a = w.before.before.before.before in
-    let l = rows a.args.kind a.args.s.now a.args.n a.args.at in
-    let b = write_all (layout a.args.kind).encode l in
-    let h : a.args.to + length b ≤ length a.args.out.now = omega (arith, a.requires.2.room, moved_wide a.args.kind a.args.first l) in
-    let e = ap length w.write_records-end.ensures.holds ∙ length_splice a.args.out.now a.args.to b h in
-    (a.requires.0, omega (arith, h, e, rows_wide a.args.kind a.args.first a.args.s.now a.args.n a.args.at), a.requires.1, stands_written h w.write_records-end.ensures)
+move_frames-requires c =
+    let l = rows c.args.kind c.args.s.now c.args.n c.args.at in
+    let b = write_all (layout c.args.kind).encode l in
+    let h : c.args.to + length b ≤ length c.args.out.now = omega (arith, c.requires.2.room, moved_wide c.args.kind c.args.first l) in
+    let e = ap length c.write_records-end.ensures.holds ∙ length_splice c.args.out.now c.args.to b h in
+    (c.requires.0, omega (arith, h, e, rows_wide c.args.kind c.args.first c.args.s.now c.args.n c.args.at), c.requires.1, stands_written h c.write_records-end.ensures)
 
 pub returns : goal.returns
 returns c =
-    let m = c.before.before in
-    let w = m.before.before.before.before in
-    let a = w.before.before.before.before in
-    over_written w.write_records-end.ensures m.move_frames.ensures (sym (moved_wide a.args.kind a.args.first (rows a.args.kind a.args.s.now a.args.n a.args.at))) a.requires.2.room
+    over_written c.write_records-end.ensures c.move_frames.ensures (sym (moved_wide c.args.kind c.args.first (rows c.args.kind c.args.s.now c.args.n c.args.at))) c.requires.2.room

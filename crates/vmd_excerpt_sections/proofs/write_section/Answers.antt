@@ -9,26 +9,19 @@ use Rattle.vmd_excerpt_sections.proofs.write_section.Goals as goal
 pub overflow_add-to : goal.overflow_add-to
 unfolding fixed
 overflow_add-to c =
-    let a = c.before.before.before in
-    omega (arith, (counted_room (fixed (layout a.args.kind)) (kept_rows a.args.kind a.args.first a.args.last a.args.s.now a.args.x.count a.args.x.place) a.requires.1).room)
+    omega (arith, (counted_room (fixed (layout c.args.kind)) (kept_rows c.args.kind c.args.first c.args.last c.args.s.now c.args.x.count c.args.x.place) c.requires.1).room)
 
 pub write_kept-records-requires : goal.write_kept-records-requires
 unfolding fixed
-write_kept-records-requires c κs =
-    let p = c.before.before.before in
-    (p.requires.0, counted_room (fixed (layout p.args.kind)) (kept_rows p.args.kind p.args.first p.args.last p.args.s.now p.args.x.count p.args.x.place) p.requires.1)
+write_kept-records-requires c =
+    (c.requires.0, counted_room (fixed (layout c.args.kind)) (kept_rows c.args.kind c.args.first c.args.last c.args.s.now c.args.x.count c.args.x.place) c.requires.1)
 
 pub write_u32_le-requires : goal.write_u32_le-requires
 unfolding fixed
-write_u32_le-requires c κs =
-    let w = c.before.before.before in
-    let a = w.before.before.before.before in
-    omega (arith, counted_length (fixed (layout a.args.kind)) (kept_rows a.args.kind a.args.first a.args.last a.args.s.now a.args.x.count a.args.x.place) a.requires.1 w.write-Kept.ensures.0, (counted_room (fixed (layout a.args.kind)) (kept_rows a.args.kind a.args.first a.args.last a.args.s.now a.args.x.count a.args.x.place) a.requires.1).room)
+write_u32_le-requires c =
+    omega (arith, counted_length (fixed (layout c.args.kind)) (kept_rows c.args.kind c.args.first c.args.last c.args.s.now c.args.x.count c.args.x.place) c.requires.1 c.write_kept-records.ensures.0, (counted_room (fixed (layout c.args.kind)) (kept_rows c.args.kind c.args.first c.args.last c.args.s.now c.args.x.count c.args.x.place) c.requires.1).room)
 
 pub returns : goal.returns
 unfolding fixed
 returns c =
-    let w = c.before.before in
-    let k = w.before.before.before.before in
-    let a = k.before.before.before.before in
-    counted_written (fixed (layout a.args.kind)) (kept_rows a.args.kind a.args.first a.args.last a.args.s.now a.args.x.count a.args.x.place) a.requires.1 k.write-Kept.ensures.0 k.write-Kept.ensures.1 w.write_u32_le.ensures
+    counted_written (fixed (layout c.args.kind)) (kept_rows c.args.kind c.args.first c.args.last c.args.s.now c.args.x.count c.args.x.place) c.requires.1 c.write_kept-records.ensures.0 c.write_kept-records.ensures.1 c.write_u32_le.ensures

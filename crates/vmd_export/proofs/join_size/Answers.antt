@@ -9,21 +9,15 @@ use Rattle.vmd_export.specs.Meaning.{both_answer}
 use Rattle.vmd_export.proofs.join_size.Goals as goal
 
 pub size_of_both-requires : goal.size_of_both-requires
-size_of_both-requires c κs =
-    let b = c.before in
-    let s = b.before.before in
-    (both_scanned _ _ _ _ _ (heard both_answer s.scan_both.ensures b.a-1.given.1) (omega arith) (omega arith)).sums
+size_of_both-requires c =
+    (both_scanned _ _ _ _ _ (heard both_answer c.scan_both.ensures c.in-Scanned.is) (omega arith) (omega arith)).sums
 
 pub returns-in-Refused : goal.returns-in-Refused
 returns-in-Refused c =
-    let a = c.before in
-    let s = a.before.before in
-    refused_answer _ _ _ (join_refused _ _ _ _ (heard both_answer s.scan_both.ensures a.k-1.given.1))
+    refused_answer _ _ _ (join_refused _ _ _ _ (heard both_answer c.scan_both.ensures c.in-Refused.is))
 
 pub returns-in-Scanned : goal.returns-in-Scanned
 returns-in-Scanned c =
-    let b = c.before.before in
-    let s = b.before.before in
     c.size_of_both.ensures
-    ∙ both_size (both_scanned _ _ _ _ _ (heard both_answer s.scan_both.ensures b.a-1.given.1) (omega arith) (omega arith)) _ _ _
-    ∙ ap (λ w. map_answer length (fitted 18446744073709551615 w)) (join_given _ _ _ _ _ _ (heard both_answer s.scan_both.ensures b.a-1.given.1) refl)
+    ∙ both_size (both_scanned _ _ _ _ _ (heard both_answer c.scan_both.ensures c.in-Scanned.is) (omega arith) (omega arith)) _ _ _
+    ∙ ap (λ w. map_answer length (fitted 18446744073709551615 w)) (join_given _ _ _ _ _ _ (heard both_answer c.scan_both.ensures c.in-Scanned.is) refl)

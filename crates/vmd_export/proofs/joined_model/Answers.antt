@@ -7,8 +7,7 @@ use Rattle.vmd_export.proofs.joined_model.Goals as goal
 
 pub returns-then-name-eq0 : goal.returns-then-name-eq0
 returns-then-name-eq0 c =
-    let m = c.before.before in
-    c.model_name.ensures ∙ model_other _ _ (omega (arith, ap length m.model_name-name.ensures))
+    c.model_name.ensures ∙ model_other _ _ (omega (arith, ap length c.model_name-name.ensures))
 
 pub returns : goal.returns
 returns c = c.model_name-name.ensures ∙ model_kept _ _ (omega (arith, ap length c.model_name-name.ensures))

@@ -7,28 +7,19 @@ use Rattle.vmd_export.proofs.scan_both.Goals as goal
 
 pub returns-then-sums_fit : goal.returns-then-sums_fit
 returns-then-sums_fit c =
-    let f = c.before in
-    let b = f.before.before in
-    let a = b.before.before.before.before in
-    both_found _ _ _ _ _ (heard scan_answer a.scan_file.ensures a.a-1.given.1)
-    (heard scan_answer b.scan_file-in-Scanned.ensures b.b-1.given.1) (sym f.sums_fit.ensures ∙ c.if-sums_fit.true)
+    both_found _ _ _ _ _ (heard scan_answer c.scan_file.ensures c.in-Scanned.is)
+    (heard scan_answer c.scan_file-in-Scanned.ensures c.in-Scanned-scan_file.is) (sym c.sums_fit.ensures ∙ c.if-sums_fit.true)
 
 pub returns-in-Refused : goal.returns-in-Refused
 returns-in-Refused c =
-    let k = c.before in
-    first_refused _ _ _ _ (heard scan_answer k.scan_file.ensures k.k-1.given.1)
+    first_refused _ _ _ _ (heard scan_answer c.scan_file.ensures c.in-Refused.is)
 
 pub returns-in-Refused-scan_file : goal.returns-in-Refused-scan_file
 returns-in-Refused-scan_file c =
-    let k = c.before in
-    let a = k.before.before.before.before in
-    second_refused _ _ _ _ _ (heard scan_answer a.scan_file.ensures a.a-1.given.1)
-    (heard scan_answer k.scan_file-in-Scanned.ensures k.k-in-Refused-scan_file-2-1.given.1)
+    second_refused _ _ _ _ _ (heard scan_answer c.scan_file.ensures c.in-Scanned.is)
+    (heard scan_answer c.scan_file-in-Scanned.ensures c.in-Refused-scan_file.is)
 
 pub returns-else-sums_fit : goal.returns-else-sums_fit
 returns-else-sums_fit c =
-    let f = c.before in
-    let b = f.before.before in
-    let a = b.before.before.before.before in
-    both_over _ _ _ _ _ (heard scan_answer a.scan_file.ensures a.a-1.given.1)
-    (heard scan_answer b.scan_file-in-Scanned.ensures b.b-1.given.1) (sym f.sums_fit.ensures ∙ c.if-sums_fit.false)
+    both_over _ _ _ _ _ (heard scan_answer c.scan_file.ensures c.in-Scanned.is)
+    (heard scan_answer c.scan_file-in-Scanned.ensures c.in-Scanned-scan_file.is) (sym c.sums_fit.ensures ∙ c.if-sums_fit.false)

@@ -7,19 +7,12 @@ use Rattle.vmd_export.proofs.scan_fitting.Goals as goal
 
 pub returns-then-model_width-model_name : goal.returns-then-model_width-model_name
 returns-then-model_width-model_name c =
-    let n = c.before in
-    let w = n.before in
-    let a = w.before.before in
-    fitting_long _ _ _ _ (heard scan_answer a.scan_file.ensures a.a-1.given.1) _ n.model_name.ensures (omega (arith, w.model_width.ensures.value))
+    fitting_long _ _ _ _ (heard scan_answer c.scan_file.ensures c.in-Scanned.is) _ c.model_name.ensures (omega (arith, c.model_width.ensures.value))
 
 pub returns-in-Refused : goal.returns-in-Refused
 returns-in-Refused c =
-    let k = c.before in
-    fitting_refused _ _ _ _ (heard scan_answer k.scan_file.ensures k.k-1.given.1)
+    fitting_refused _ _ _ _ (heard scan_answer c.scan_file.ensures c.in-Refused.is)
 
 pub returns-else-model_width-model_name : goal.returns-else-model_width-model_name
 returns-else-model_width-model_name c =
-    let n = c.before in
-    let w = n.before in
-    let a = w.before.before in
-    fitting_found _ _ _ _ (heard scan_answer a.scan_file.ensures a.a-1.given.1) _ n.model_name.ensures (omega (arith, w.model_width.ensures.value))
+    fitting_found _ _ _ _ (heard scan_answer c.scan_file.ensures c.in-Scanned.is) _ c.model_name.ensures (omega (arith, c.model_width.ensures.value))

@@ -4,7 +4,7 @@ use Rattle.vmd_export.specs.Together.{sum_length}
 use Rattle.vmd_export.proofs.size_of_both.Goals as goal
 
 pub overflow_add-a-5 : goal.overflow_add-a-5
-overflow_add-a-5 c = omega (arith, c.requires.self-shadows)
+overflow_add-a-5 c = omega (arith, c.requires.self_shadows)
 
 pub overflow_add-a-6 : goal.overflow_add-a-6
 overflow_add-a-6 c =
@@ -12,7 +12,7 @@ overflow_add-a-6 c =
 
 pub overflow_add-a-7 : goal.overflow_add-a-7
 overflow_add-a-7 c =
-    omega (arith, c.requires.ik-states)
+    omega (arith, c.requires.ik_states)
 
 pub returns : goal.returns
 unfolding sum_length

@@ -6,15 +6,11 @@ use Rattle.vmd_export.proofs.sums_fit.Goals as goal
 pub returns : goal.returns
 unfolding sums_fit
 returns c =
-    let five = c.before in
-    let four = five.before in
-    let three = four.before in
-    let two = three.before in
     c.also_fits.ensures
     ∙ rw (
-      five.also_fits-five.ensures,
-      four.also_fits-four.ensures,
-      three.also_fits-three.ensures,
-      two.also_fits-two.ensures,
-      two.also_fits-one.ensures,
+      c.also_fits-five.ensures,
+      c.also_fits-four.ensures,
+      c.also_fits-three.ensures,
+      c.also_fits-two.ensures,
+      c.also_fits-one.ensures,
     )

@@ -6,22 +6,19 @@ use Rattle.vmd_laws.specs.InsideLaws.{inside_reaches}
 use Rattle.vmd_frames.proofs.all_frames.Goals as goal
 
 pub with_properties-requires : goal.with_properties-requires
-with_properties-requires c κs =
-    let s = c.before.before.before.before.before.before.before in
-    inside_reaches s.args.file.now (scan_is s.args.sections) s.requires
+with_properties-requires c =
+    inside_reaches c.args.file.now (scan_is c.args.sections) c.requires
 
 pub returns : goal.returns
 unfolding scan_frames
 returns c =
-    let t = c.before in
-    let u = t.before.before in
     simp with_append
     (rw (
       c.with_properties.ensures,
-      t.with_records-self_shadows.ensures,
-      t.with_records-lights.ensures,
-      u.with_records-cameras.ensures,
-      u.with_records-morphs.ensures,
-      u.with_records-bones.ensures,
-      u.none.ensures,
+      c.with_records-self_shadows.ensures,
+      c.with_records-lights.ensures,
+      c.with_records-cameras.ensures,
+      c.with_records-morphs.ensures,
+      c.with_records-bones.ensures,
+      c.none.ensures,
     ))

@@ -13,7 +13,5 @@ returns-then-records-eq0 c = frames_none _ _ (sym c.record_count-records.ensures
 pub returns : goal.returns
 unfolding record_count
 returns c =
-    let i = c.before in
-    let k = i.before.before in
-    let bytes : Bytes k.args.file.now = λ j. omega (arith, k.shared_slice_known-1.given j) in
-    c.all_frames.ensures ∙ frames_some _ _ bytes (λ e. i.if-records-eq0.false (i.record_count-records.ensures ∙ e))
+    let bytes : Bytes c.args.file.now = λ j. omega (arith, c.shared_slice_known-1.given j) in
+    c.all_frames.ensures ∙ frames_some _ _ bytes (λ e. c.if-records-eq0.false (c.record_count-records.ensures ∙ e))

@@ -8,10 +8,9 @@ use Rattle.vmd_laws.specs.Places.{Reaches}
 use Rattle.vmd_frames.proofs.Laws.{reaches_next}
 use Rattle.vmd_frames.proofs.Frames.{seen_turn, seen_done}
 use Rattle.vmd_frames.proofs.with_properties.Goals as goal
-use Rattle.vmd_frames.proofs.with_properties.Lts as lts
 
 -- the frame of a turn lies in the file
-inside : (c : lts.In-loop-i invariant-loop decreases-loop)
+inside : (c : goal.In-loop-i invariant-loop decreases-loop)
     → let a = c.args in
     let l = c.loop-i in
     (next_frame a.file.now l.at ≤ length a.file.now) × Reaches a.file.now (a.section.count - (l.i + 1)) (next_frame a.file.now l.at)
@@ -25,19 +24,17 @@ loop-i-init c = (omega arith, rw sub-zero c.requires, rw sub-zero refl)
 
 pub read_u32_le-requires : goal.read_u32_le-requires
 unfolding next_frame
-read_u32_le-requires c κs = omega (arith, (inside c).0)
+read_u32_le-requires c = omega (arith, (inside c).0)
 
 pub next_property_frame-at-requires : goal.next_property_frame-at-requires
-next_property_frame-at-requires c κs = (inside c.before.before).0
+next_property_frame-at-requires c = (inside c.before.before).0
 
 pub loop-i-preserved : goal.loop-i-preserved
 loop-i-preserved c =
-    let w = c.before in
     let r = w.before in
-    let l = r.before.before in
-    let a = l.args in
-    let e = seen_turn _ _ a.file.now a.section.count l.loop-i.i l.loop-i.at l.loop-i.frames _ (omega arith) l.loop-i.invariant.2 in
-    rw (c.next_property_frame-at.ensures, w.with_frame-frames.ensures, r.read_u32_le.ensures) (
+    let a = c.args in
+    let e = seen_turn _ _ a.file.now a.section.count c.loop-i.i c.loop-i.at c.loop-i.frames _ (omega arith) c.loop-i.invariant.2 in
+    rw (c.next_property_frame-at.ensures, c.with_frame-frames.ensures, c.read_u32_le.ensures) (
       omega arith,
       (inside r.before).1,
       rw add-zero at e,

@@ -8,7 +8,7 @@ use Rattle.vmd_frames.proofs.with_records.Given as goal
 
 abbrev pub invariant-loop-i : goal.invariant-loop-i
 invariant-loop-i l = (l.i ≤ l.n) × (l.at + (l.n - l.i) * l.size ≤ length l.file) × (l.offset + 4 ≤ l.size)
-    × (seen (λ l.at. l.at + l.size) l.offset l.file (l.n - l.i) l.at l.frames ≡ seen (λ l.at. l.at + l.size) l.offset l.file l.n l.initial.at l.initial.frames)
+    × (seen (λ at'. at' + l.size) l.offset l.file (l.n - l.i) l.at l.frames ≡ seen (λ at'. at' + l.size) l.offset l.file l.n l.initial.at l.initial.frames)
 
 abbrev pub decreases-loop-i : goal.decreases-loop-i
 decreases-loop-i l = l.n - l.i

@@ -17,4 +17,4 @@ returns c =
     let w = c.model_width-width in
     let same : w.result ≡ (30 + w.result) - 30 = omega arith in
     (λ i. given (record { name = 30; width = same i; sections = 30 + w.result }))
-    ∙ rw w.ensures.0 (sym (ap (map_answer header_places) (past_whole _ _ (omega (arith, w.ensures.0)))))
+    ∙ rw w.ensures.value (sym (ap (map_answer header_places) (past_whole _ _ (omega (arith, w.ensures.value)))))

@@ -4,7 +4,7 @@ use Rattle.vmd_header.proofs.Laws.{model_cuts}
 use Rattle.vmd_header.proofs.model_name.Goals as goal
 
 pub cut-requires : goal.cut-requires
-cut-requires c κs = cut_inside c.model_part.ensures (model_cuts _)
+cut-requires c = cut_inside c.model_part.ensures (model_cuts _)
 
 pub returns : goal.returns
 returns c = cut_named c.model_part.ensures (model_cuts _) _ c.cut.ensures

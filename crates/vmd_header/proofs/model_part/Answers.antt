@@ -6,16 +6,14 @@ use Rattle.vmd_header.proofs.Laws.{name_begins, header_headed, no_part}
 use Rattle.vmd_header.proofs.model_part.Goals as goal
 
 pub name_at-requires : goal.name_at-requires
-name_at-requires c κs =
-    let t = c.before in
-    (header_headed _ _ (sym t.read_header.ensures ∙ ap header_answer t.header-1.given.1)).name-ends
+name_at-requires c =
+    (header_headed _ _ (sym c.read_header.ensures ∙ ap header_answer c.in-Read.is)).name-ends
 
 pub returns-in-Refused : goal.returns-in-Refused
-returns-in-Refused c = no_part _ _ (sym c.read_header.ensures ∙ ap header_answer c.enum_told-1.given.1)
+returns-in-Refused c = no_part _ _ (sym c.read_header.ensures ∙ ap header_answer c.in-Refused.is)
 
 pub returns-in-Read : goal.returns-in-Read
 unfolding name_in
 returns-in-Read c =
-    let t = c.before.before in
-    let e = sym t.read_header.ensures ∙ ap header_answer t.header-1.given.1 in
+    let e = sym c.read_header.ensures ∙ ap header_answer c.in-Read.is in
     rw (← (header_headed _ _ e).named, ← name_begins _ _ e) c.name_at.ensures

@@ -6,22 +6,14 @@ use Rattle.vmd_index.proofs.after_code_point.Goals as goal
 pub returns-then-is_hexadecimal : goal.returns-then-is_hexadecimal
 unfolding after_code_point
 returns-then-is_hexadecimal c =
-    let i = c.before in
-    rw (sym i.is_hexadecimal.ensures ∙ c.if-is_hexadecimal.true)
+    rw (sym c.is_hexadecimal.ensures ∙ c.if-is_hexadecimal.true)
 
 pub returns-then-b-eq9 : goal.returns-then-b-eq9
 unfolding after_code_point
 returns-then-b-eq9 c =
-    let i = c.before in
-    let h = i.before in
-    let s = h.before in
-    rw (sym h.is_hexadecimal.ensures ∙ i.if-is_hexadecimal.false, eq-eqb s.args.b 9 c.if-b-eq9.true)
+    rw (sym c.is_hexadecimal.ensures ∙ c.if-is_hexadecimal.false, eq-eqb c.args.b 9 c.if-b-eq9.true)
 
 pub returns : goal.returns
 unfolding after_code_point
 returns c =
-    let i = c.before in
-    let a = i.before in
-    let h = a.before in
-    let s = h.before in
-    rw (sym h.is_hexadecimal.ensures ∙ a.if-is_hexadecimal.false, ne_eqb s.args.b 9 i.if-b-eq9.false) c.only.ensures
+    rw (sym c.is_hexadecimal.ensures ∙ c.if-is_hexadecimal.false, ne_eqb c.args.b 9 c.if-b-eq9.false) c.only.ensures

@@ -4,8 +4,4 @@ use Rattle.vmd_index.proofs.index_words.Goals as goal
 
 pub returns : goal.returns
 returns c =
-    let m = c.before in
-    let p = m.before in
-    let e = p.before.before in
-    let s = e.before.before in
-    ended_is s.args.reader e.phase_end-found.ensures p.pointer_of.ensures m.mark.ensures c.outcome_after-outcome.ensures
+    ended_is c.args.reader c.phase_end-found.ensures c.pointer_of.ensures c.mark.ensures c.outcome_after-outcome.ensures

@@ -6,11 +6,9 @@ use Rattle.vmd_index.proofs.is_blank.Goals as goal
 pub returns-then-b-eq32 : goal.returns-then-b-eq32
 unfolding blank
 returns-then-b-eq32 c =
-    let s = c.before in
-    rw (eq-eqb s.args.b 32 c.if-b-eq32.true)
+    rw (eq-eqb c.args.b 32 c.if-b-eq32.true)
 
 pub returns : goal.returns
 unfolding blank
 returns c =
-    let s = c.before in
-    rw (ne_eqb s.args.b 32 c.if-b-eq32.false)
+    rw (ne_eqb c.args.b 32 c.if-b-eq32.false)

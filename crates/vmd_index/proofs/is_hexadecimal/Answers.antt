@@ -6,22 +6,14 @@ use Rattle.vmd_index.proofs.is_hexadecimal.Goals as goal
 pub returns-then-is_digit : goal.returns-then-is_digit
 unfolding hexadecimal
 returns-then-is_digit c =
-    let i = c.before in
-    rw (sym i.is_digit.ensures ∙ c.if-is_digit.true)
+    rw (sym c.is_digit.ensures ∙ c.if-is_digit.true)
 
 pub returns-then-between : goal.returns-then-between
 unfolding hexadecimal
 returns-then-between c =
-    let b = c.before in
-    let i = b.before in
-    let d = i.before in
-    rw (sym d.is_digit.ensures ∙ i.if-is_digit.false, sym b.between.ensures ∙ c.if-between.true)
+    rw (sym c.is_digit.ensures ∙ c.if-is_digit.false, sym c.between.ensures ∙ c.if-between.true)
 
 pub returns : goal.returns
 unfolding hexadecimal
 returns c =
-    let i = c.before in
-    let b = i.before in
-    let a = b.before in
-    let d = a.before in
-    rw (sym d.is_digit.ensures ∙ a.if-is_digit.false, sym b.between.ensures ∙ i.if-between.false) c.between-2.ensures
+    rw (sym c.is_digit.ensures ∙ c.if-is_digit.false, sym c.between.ensures ∙ c.if-between.false) c.between-2.ensures

@@ -7,19 +7,14 @@ use Rattle.vmd_index.proofs.judged.Goals as goal
 pub returns-then-p-ge-POINTERS : goal.returns-then-p-ge-POINTERS
 unfolding judged
 returns-then-p-ge-POINTERS c =
-    let s = c.before in
-    rw (le-leb 11280 s.args.p c.if-p-ge-POINTERS.true)
+    rw (le-leb 11280 c.args.p c.if-p-ge-POINTERS.true)
 
 pub returns-then-p-least : goal.returns-then-p-least
 unfolding judged
 returns-then-p-least c =
-    let i = c.before in
-    let s = i.before in
-    rw (lt-leb 11280 s.args.p i.if-p-ge-POINTERS.false, lt-ltb s.args.p s.args.least c.if-p-least.true)
+    rw (lt-leb 11280 c.args.p c.if-p-ge-POINTERS.false, lt-ltb c.args.p c.args.least c.if-p-least.true)
 
 pub returns : goal.returns
 unfolding judged
 returns c =
-    let i = c.before in
-    let s = i.before in
-    rw (lt-leb 11280 s.args.p i.if-p-ge-POINTERS.false, le-ltb s.args.p s.args.least c.if-p-least.false)
+    rw (lt-leb 11280 c.args.p c.if-p-ge-POINTERS.false, le-ltb c.args.p c.args.least c.if-p-least.false)

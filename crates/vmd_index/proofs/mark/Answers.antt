@@ -7,12 +7,9 @@ use Rattle.vmd_index.proofs.mark.Goals as goal
 pub returns-then-p-lt-POINTERS : goal.returns-then-p-lt-POINTERS
 unfolding marked
 returns-then-p-lt-POINTERS c =
-    let i = c.before.before in
-    let s = i.before in
-    rw (lt-ltb s.args.p 11280 i.if-p-lt-POINTERS.true, c.wrapping_add_u32.ensures, one_shifted (s.args.p % 32) (omega arith))
+    rw (lt-ltb c.args.p 11280 c.if-p-lt-POINTERS.true, c.wrapping_add_u32.ensures, one_shifted (c.args.p % 32) (omega arith))
 
 pub returns-else-p-lt-POINTERS : goal.returns-else-p-lt-POINTERS
 unfolding marked
 returns-else-p-lt-POINTERS c =
-    let s = c.before in
-    rw (le-ltb s.args.p 11280 c.if-p-lt-POINTERS.false)
+    rw (le-ltb c.args.p 11280 c.if-p-lt-POINTERS.false)

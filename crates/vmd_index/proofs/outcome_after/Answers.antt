@@ -2,4 +2,4 @@
 use Rattle.vmd_index.proofs.outcome_after.Goals as goal
 
 pub returns-in-Fault : goal.returns-in-Fault
-returns-in-Fault c = rw c.found-1.given.1
+returns-in-Fault c = rw c.in-Fault.is

@@ -11,6 +11,5 @@ returns-then-floor-eq0 c =
 
 pub returns : goal.returns
 returns c =
-    let i = c.before in
-    let a = i.args in
-    c.key_before.ensures ∙ sym (above_some (key a.order a.s.now) a.floor a.x i.if-floor-eq0.false)
+    let a = c.args in
+    c.key_before.ensures ∙ sym (above_some (key a.order a.s.now) a.floor a.x c.if-floor-eq0.false)

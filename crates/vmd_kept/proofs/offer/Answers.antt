@@ -3,7 +3,6 @@ use mathlib.Core.List.{[], ◌∷◌, ◌++◌}
 use mathlib.Core.Path.{sym, ◌∙◌}
 use Prim.Native.Nat.{◌+◌}
 use native.Mathlib.Omega.{arith}
-use borrow.Author.Tests.{not-true, not-false}
 use lib.ListN.{length, take, length-set}
 use Rattle.vmd_sort.specs.Order.{key}
 use Rattle.vmd_kept.proofs.HeldLaws.{holds_skip, holds_add, put_last, put_full, rising_put}
@@ -11,26 +10,21 @@ use Rattle.vmd_kept.proofs.offer.Goals as goal
 
 pub returns-then-not-is_between : goal.returns-then-not-is_between
 returns-then-not-is_between c =
-    let i = c.before in
-    let a = i.args in
-    (omega arith, λ l w. holds_skip (key a.order a.s.now) w (sym i.is_between.ensures ∙ not-true _ c.if-not-is_between.true))
+    let a = c.args in
+    (omega arith, λ l w. holds_skip (key a.order a.s.now) w (sym c.is_between.ensures ∙ c.if-not-is_between.true))
 
 pub returns-then-k-lt-PLACES : goal.returns-then-k-lt-PLACES
 returns-then-k-lt-PLACES c =
-    let i = c.before in
-    let b = i.before in
-    let d = b.before.before.before in
-    let a = d.args in (
+    let a = c.args in (
       omega arith,
-      λ l w. rw (put_last a.a.now a.m a.x (omega (arith, d.requires.0)))
-          (holds_add (key a.order a.s.now) w (sym b.is_between.ensures ∙ not-false _ i.if-not-is_between.false)),
+      λ l w. rw (put_last a.a.now a.m a.x (omega (arith, c.requires.0)))
+          (holds_add (key a.order a.s.now) w (sym c.is_between.ensures ∙ c.if-not-is_between.false)),
     )
 
 pub squeeze-requires : goal.squeeze-requires
-squeeze-requires c κs =
-    let b = c.before.before.before.before.before.before in
-    let a = b.args in
-    let p = b.requires in (
+squeeze-requires c =
+    let a = c.args in
+    let p = c.requires in (
       length-set a.a.now a.m a.x ∙ p.0,
       rw (put_full a.a.now a.m a.x (omega (arith, p.0)))
           (rising_put (length a.s.now) a.x (take a.m a.a.now) p.2 p.3),
@@ -39,20 +33,15 @@ squeeze-requires c κs =
 
 pub shape_of-a : goal.shape_of-a
 shape_of-a c =
-    let s = c.before.before in
-    let a = s.args in
-    s.squeeze.auto.a ∙ length-set a.a.now a.m a.x
+    let a = c.args in
+    c.squeeze.auto.a ∙ length-set a.a.now a.m a.x
 
 pub returns : goal.returns
 returns c =
-    let s = c.before.before in
-    let i = s.before.before.before in
-    let b = i.before in
-    let d = b.before.before.before in
-    let a = d.args in
-    let e = s.squeeze.ensures in (
+    let a = c.args in
+    let e = c.squeeze.ensures in (
       omega (arith, e.0),
       λ l w. e.1 a.floor (a.x + 1) (l ++ a.x ∷ [])
-          (rw (put_full a.a.now a.m a.x (omega (arith, d.requires.0)))
-          (holds_add (key a.order a.s.now) w (sym b.is_between.ensures ∙ not-false _ i.if-not-is_between.false))),
+          (rw (put_full a.a.now a.m a.x (omega (arith, c.requires.0)))
+          (holds_add (key a.order a.s.now) w (sym c.is_between.ensures ∙ c.if-not-is_between.false))),
     )

@@ -7,14 +7,12 @@ use Rattle.vmd_kept.proofs.HeldLaws.{sorted_like}
 use Rattle.vmd_kept.proofs.tally.Goals as goal
 
 pub tidy_places-k-requires : goal.tidy_places-k-requires
-tidy_places-k-requires c κs =
-    let b = c.before.before.before in
-    let a = b.args in
-    sorted_like (rest a.order) b.requires.2 a.a.now b.requires.1.sorted
+tidy_places-k-requires c =
+    let a = c.args in
+    sorted_like (rest a.order) c.requires.2 a.a.now c.requires.1.sorted
 
 pub returns : goal.returns
 returns c =
-    let t = c.before.before.before.before in
-    let a = t.args in
-    let e = t.tidy_places-k.ensures in
-    tallied (states_there a.s.now) _ _ t.tidy_places-k.new.0 _ e.0 (omega (arith, e.1, e.2)) c.weigh.ensures
+    let a = c.args in
+    let e = c.tidy_places-k.ensures in
+    tallied (states_there a.s.now) _ _ c.tidy_places-k.new.0 _ e.0 (omega (arith, e.1, e.2)) c.weigh.ensures

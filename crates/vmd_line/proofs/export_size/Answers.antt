@@ -11,12 +11,9 @@ use Rattle.vmd_line.proofs.export_size.Goals as goal
 pub returns-in-Refused : goal.returns-in-Refused
 unfolding export_size file_length
 returns-in-Refused c =
-    let f = c.before.before in
-    size_there (scan_is f.args.sections) (omega (arith, f.requires, f.well-formed)) _ _ f.file_size.ensures (ap written_answer c.enum_told-1.given.1)
+    size_there (scan_is c.args.sections) (omega (arith, c.requires, c.well-formed)) _ _ c.file_size.ensures (ap written_answer c.in-Refused.is)
 
 pub returns-in-Bytes : goal.returns-in-Bytes
 unfolding export_size file_length
 returns-in-Bytes c =
-    let t = c.before in
-    let f = t.before.before in
-    size_given (scan_is f.args.sections) (omega (arith, f.requires, f.well-formed)) _ _ f.file_size.ensures (ap written_answer t.n-1.given.1)
+    size_given (scan_is c.args.sections) (omega (arith, c.requires, c.well-formed)) _ _ c.file_size.ensures (ap written_answer c.in-Bytes.is)

@@ -12,26 +12,25 @@ pub loop-i-init : goal.loop-i-init
 unfolding spaced
 loop-i-init c =
     let w = c.write_decimal-at in
-    let l : length w.new.0 ≡ 256 = omega (arith, w.auto.0) in
-    (omega arith, omega arith, omega (arith, w.ensures.1), l, l, rw part_zero (wrote_none _ _))
+    let l : length w.new.0 ≡ 256 = omega (arith, w.auto.out) in
+    (omega arith, omega arith, omega (arith, w.ensures.upper_bound), l, l, rw part_zero (wrote_none _ _))
 
 pub write_decimal-at-requires-in-loop-i : goal.write_decimal-at-requires-in-loop-i
-write_decimal-at-requires-in-loop-i c κs = simp length-set (omega arith)
+write_decimal-at-requires-in-loop-i c = simp length-set (omega arith)
 
 pub loop-i-preserved : goal.loop-i-preserved
 loop-i-preserved c =
     let w = c.write_decimal-at-in-loop-i in
-    let t = c.before.before.before.before.before in
-    let inv = t.loop-i.invariant in
-    let n : length t.args.numbers.now ≡ 10 = omega arith in
-    let e : w.result + 1 ≤ 21 * (t.loop-i.i + 1) = omega (arith, w.ensures.1) in
-    let l : length w.new.0 ≡ 256 = w.auto.0 ∙ simp length-set inv.3 in (
+    let inv = c.loop-i.invariant in
+    let n : length c.args.numbers.now ≡ 10 = omega arith in
+    let e : w.result + 1 ≤ 21 * (c.loop-i.i + 1) = omega (arith, w.ensures.upper_bound) in
+    let l : length w.new.0 ≡ 256 = w.auto.out ∙ simp length-set inv.3 in (
       omega arith,
       omega arith,
       e,
       l,
       inv.4,
-      row_turn _ _ _ _ _ _ _ _ (omega arith) (omega arith) inv.5 (omega arith) w.ensures.0 (omega arith),
+      row_turn _ _ _ _ _ _ _ _ (omega arith) (omega arith) inv.5 (omega arith) w.ensures.wrote (omega arith),
     )
 
 pub shape_of-out : goal.shape_of-out
@@ -39,9 +38,8 @@ shape_of-out c = simp length-set (omega arith)
 
 pub returns : goal.returns
 returns c =
-    let s = c.before.before.before.before in
-    let w = s.write_decimal-at in
+    let w = c.write_decimal-at in
     let l = c.loop-i.invariant in
-    let n : length s.args.numbers.now ≡ 10 = omega arith in
+    let n : length c.args.numbers.now ≡ 10 = omega arith in
     let i : c.loop-i.i - 1 ≡ 9 = omega arith in
-    row_done _ _ _ _ _ _ n w.ensures.0 (rw i at l.5) (omega arith)
+    row_done _ _ _ _ _ _ n w.ensures.wrote (rw i at l.5) (omega arith)

@@ -9,31 +9,24 @@ pub loop-i-init : goal.loop-i-init
 loop-i-init c = (omega arith, fault_start c.args.bytes.now)
 
 pub unit_at-n-requires : goal.unit_at-n-requires
-unit_at-n-requires c κs = record { presence = c.requires; at_in_bounds = omega arith }
+unit_at-n-requires c = record { presence = c.requires; at_in_bounds = omega arith }
 
 pub returns-then-n-eq0 : goal.returns-then-n-eq0
 returns-then-n-eq0 c =
-    let u = c.before in
-    let l = u.before.before in
-    sym (fault_stop l.args.bytes.now l.loop-i.i l.loop-i.invariant.1 (sym u.unit_at-n.ensures ∙ c.if-n-eq0.true))
+    sym (fault_stop c.args.bytes.now c.loop-i.i c.loop-i.invariant.1 (sym c.unit_at-n.ensures ∙ c.if-n-eq0.true))
 
 pub overflow_add-i : goal.overflow_add-i
 overflow_add-i c =
-    let u = c.before in
-    let l = u.before.before in
-    omega (arith, unit_within l.args.bytes.now l.loop-i.i u.unit_at-n.ensures l.loop-i.invariant.0)
+    omega (arith, unit_within c.args.bytes.now c.loop-i.i c.unit_at-n.ensures c.loop-i.invariant.0)
 
 pub loop-i-preserved : goal.loop-i-preserved
 loop-i-preserved c =
-    let u = c.before in
-    let l = u.before.before in
-    let s = l.args.bytes.now in (
-      omega (arith, unit_within s l.loop-i.i u.unit_at-n.ensures l.loop-i.invariant.0),
-      good_turn s l.loop-i.i u.unit_at-n.ensures (omega arith) l.loop-i.invariant.1,
+    let s = c.args.bytes.now in (
+      omega (arith, unit_within s c.loop-i.i c.unit_at-n.ensures c.loop-i.invariant.0),
+      good_turn s c.loop-i.i c.unit_at-n.ensures (omega arith) c.loop-i.invariant.1,
     )
 
 pub returns : goal.returns
 returns c =
-    let l = c.before in
-    let s = l.args.bytes.now in
-    sym (fault_stop s l.loop-i.i l.loop-i.invariant.1 (unit_end s l.loop-i.i c.loop-i-test.false))
+    let s = c.args.bytes.now in
+    sym (fault_stop s c.loop-i.i c.loop-i.invariant.1 (unit_end s c.loop-i.i c.loop-i-test.false))

@@ -11,10 +11,8 @@ returns-then-name-n c = name_zero _ _ (omega arith) c.trim_fixed_bytes-name.ensu
 
 pub returns-then-good_name : goal.returns-then-good_name
 returns-then-good_name c =
-    let t = c.before.before.before in
-    name_good _ _ (omega arith) t.trim_fixed_bytes-name.ensures c.if-name-n.false c.good_name.ensures c.if-good_name.true
+    name_good _ _ (omega arith) c.trim_fixed_bytes-name.ensures c.if-name-n.false c.good_name.ensures c.if-good_name.true
 
 pub returns : goal.returns
 returns c =
-    let t = c.before.before.before in
-    name_bad _ _ (omega arith) t.trim_fixed_bytes-name.ensures c.if-name-n.false c.good_name.ensures c.if-good_name.false
+    name_bad _ _ (omega arith) c.trim_fixed_bytes-name.ensures c.if-name-n.false c.good_name.ensures c.if-good_name.false

@@ -14,10 +14,8 @@ returns-then-b-gap c = in_gap _ _ _ _ _ _ c.requires.1 c.if-b-low.false c.if-b-e
 
 pub returns-then-b-last : goal.returns-then-b-last
 returns-then-b-last c =
-    let l = c.before.before in
-    in_upper _ _ _ _ _ _ l.requires.1 l.if-b-low.false l.if-b-end.false c.if-b-gap.false c.if-b-last.true
+    in_upper _ _ _ _ _ _ c.requires.1 c.if-b-low.false c.if-b-end.false c.if-b-gap.false c.if-b-last.true
 
 pub returns : goal.returns
 returns c =
-    let l = c.before.before in
-    above_all _ _ _ _ _ _ l.requires.1 l.if-b-low.false l.if-b-end.false c.if-b-gap.false c.if-b-last.false
+    above_all _ _ _ _ _ _ c.requires.1 c.if-b-low.false c.if-b-end.false c.if-b-gap.false c.if-b-last.false

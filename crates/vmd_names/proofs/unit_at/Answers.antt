@@ -10,18 +10,15 @@ returns-then-is_single c =
 
 pub returns-then-bytes-at-lt2 : goal.returns-then-bytes-at-lt2
 returns-then-bytes-at-lt2 c =
-    let i = c.before.before in
-    let s = i.args in
-    last_there s.bytes.now s.at (omega arith) i.is_single.ensures c.if-is_single.false
+    let s = c.args in
+    last_there s.bytes.now s.at (omega arith) c.is_single.ensures c.if-is_single.false
 
 pub returns-then-is_pair : goal.returns-then-is_pair
 returns-then-is_pair c =
-    let i = c.before.before.before.before.before in
-    let s = i.args in
-    pair_there s.bytes.now s.at (omega arith) i.is_single.ensures c.if-is_single.false c.is_pair.ensures c.if-is_pair.true
+    let s = c.args in
+    pair_there s.bytes.now s.at (omega arith) c.is_single.ensures c.if-is_single.false c.is_pair.ensures c.if-is_pair.true
 
 pub returns : goal.returns
 returns c =
-    let i = c.before.before.before.before.before in
-    let s = i.args in
-    none_there s.bytes.now s.at (omega arith) i.is_single.ensures c.if-is_single.false c.is_pair.ensures c.if-is_pair.false
+    let s = c.args in
+    none_there s.bytes.now s.at (omega arith) c.is_single.ensures c.if-is_single.false c.is_pair.ensures c.if-is_pair.false

@@ -4,25 +4,16 @@ use Rattle.vmd_output.proofs.Laws.{section_rest}
 use Rattle.vmd_output.proofs.write_section.Goals as goal
 
 pub write_count-p-requires : goal.write_count-p-requires
-write_count-p-requires c κs = rest_room _ (section_rest _ _ _ _ _ c.requires.1)
+write_count-p-requires c = rest_room _ (section_rest _ _ _ _ _ c.requires.1)
 
 pub write_records-q-requires : goal.write_records-q-requires
-write_records-q-requires c κs =
-    let w = c.before.before.before.before in
-    let s = w.before.before.before.before.before.before.before in
-    (s.requires.0.first.ends, rest_room _ (rest_then _ (section_rest _ _ _ _ _ s.requires.1) w.write_count-p.ensures))
+write_records-q-requires c =
+    (c.requires.0.first.ends, rest_room _ (rest_then _ (section_rest _ _ _ _ _ c.requires.1) c.write_count-p.ensures))
 
 pub write_records-requires : goal.write_records-requires
-write_records-requires c κs =
-    let w = c.before.before.before.before in
-    let a = w.before.before.before.before.before in
-    let s = a.before.before.before.before.before.before.before in
-    (s.requires.0.second.ends, (rest_then _ (rest_then _ (section_rest _ _ _ _ _ s.requires.1) a.write_count-p.ensures) w.write_records-q.ensures).room)
+write_records-requires c =
+    (c.requires.0.second.ends, (rest_then _ (rest_then _ (section_rest _ _ _ _ _ c.requires.1) c.write_count-p.ensures) c.write_records-q.ensures).room)
 
 pub returns : goal.returns
 returns c =
-    let w = c.before.before in
-    let r = w.before.before.before.before.before in
-    let a = r.before.before.before.before.before in
-    let s = a.before.before.before.before.before.before.before in
-    rest_done (rest_then _ (rest_then _ (section_rest _ _ _ _ _ s.requires.1) a.write_count-p.ensures) r.write_records-q.ensures) w.write_records.ensures
+    rest_done (rest_then _ (rest_then _ (section_rest _ _ _ _ _ c.requires.1) c.write_count-p.ensures) c.write_records-q.ensures) c.write_records.ensures

@@ -9,48 +9,26 @@ use Rattle.vmd_parts.proofs.Size.{checked, small}
 use Rattle.vmd_parts.proofs.build_vmd_animation_from_parts.Goals as goal
 
 pub parts_size-requires : goal.parts_size-requires
-parts_size-requires c κs =
-    let p = c.before.before in
-    small _ (checked _ (heard check_of p.parts_check.ensures c.enum_told-1.given.1))
+parts_size-requires c =
+    small _ (checked _ (heard check_of c.parts_check.ensures c.in-Passes.is))
 
 pub write_front-to-requires : goal.write_front-to-requires
-write_front-to-requires c κs =
-    let t = c.before in
-    let s = t.before.before in
-    let a = s.before in
-    let p = a.before.before in
-    let e = (heard check_of p.parts_check.ensures a.enum_told-1.given.1) in
-    let k = checked _ e in let whole = (bones_fit k, (morphs_fit k, (((small _ k).0, (small _ k).1), rest_room _ (built_rest _ e _ (sym (heard written_answer s.parts_size.ensures t.enum_told-in-Bytes-1.given.1)))))) in record { bones_fit = whole.0; morphs_fit = whole.1; bone_name_indices_len_bound = whole.2; room = whole.3 }
+write_front-to-requires c =
+    let e = (heard check_of c.parts_check.ensures c.in-Passes.is) in
+    let k = checked _ e in let whole = (bones_fit k, (morphs_fit k, (((small _ k).0, (small _ k).1), rest_room _ (built_rest _ e _ (sym (heard written_answer c.parts_size.ensures c.in-Bytes.is)))))) in record { bones_fit = whole.0; morphs_fit = whole.1; bone_name_indices_len_bound = whole.2; room = whole.3 }
 
 pub write_back-end-requires : goal.write_back-end-requires
-write_back-end-requires c κs =
-    let w = c.before.before.before in
-    let t = w.before.before in
-    let s = t.before.before in
-    let a = s.before in
-    let p = a.before.before in
-    let e = (heard check_of p.parts_check.ensures a.enum_told-1.given.1) in
-    (records_fit (checked _ e), (rest_then _ (built_rest _ e _ (sym (heard written_answer s.parts_size.ensures t.enum_told-in-Bytes-1.given.1))) w.write_front-to.ensures).room)
+write_back-end-requires c =
+    let e = (heard check_of c.parts_check.ensures c.in-Passes.is) in
+    (records_fit (checked _ e), (rest_then _ (built_rest _ e _ (sym (heard written_answer c.parts_size.ensures c.in-Bytes.is))) c.write_front-to.ensures).room)
 
 pub returns-in-Fails : goal.returns-in-Fails
-returns-in-Fails c =
-    let a = c.before in
-    let p = a.before.before in let whole = built_refused _ _ (heard check_of p.parts_check.ensures a.k-1.given.1) in record { result_value = whole.0; out_after = whole.1 }
+returns-in-Fails c = let whole = built_refused _ _ (heard check_of c.parts_check.ensures c.in-Fails.is) in record { result_value = whole.0; out_after = whole.1 }
 
 pub returns-in-Refused : goal.returns-in-Refused
-returns-in-Refused c =
-    let k = c.before in
-    let s = k.before.before in
-    let e = s.before in
-    let p = e.before.before in let whole = built_over _ (heard check_of p.parts_check.ensures e.enum_told-1.given.1) (sym (heard written_answer s.parts_size.ensures k.k-in-Refused-1.given.1)) in record { result_value = whole.0; out_after = whole.1 }
+returns-in-Refused c = let whole = built_over _ (heard check_of c.parts_check.ensures c.in-Passes.is) (sym (heard written_answer c.parts_size.ensures c.in-Refused.is)) in record { result_value = whole.0; out_after = whole.1 }
 
 pub returns-in-Bytes : goal.returns-in-Bytes
 returns-in-Bytes c =
-    let w = c.before.before in
-    let f = w.before.before.before.before in
-    let t = f.before.before in
-    let s = t.before.before in
-    let a = s.before in
-    let p = a.before.before in
-    let e = (heard check_of p.parts_check.ensures a.enum_told-1.given.1) in
-    let h = (sym (heard written_answer s.parts_size.ensures t.enum_told-in-Bytes-1.given.1)) in let whole = built_wrote _ e _ h (rest_done (rest_then _ (built_rest _ e _ h) f.write_front-to.ensures) w.write_back-end.ensures) in record { result_value = whole.0; out_after = whole.1 }
+    let e = (heard check_of c.parts_check.ensures c.in-Passes.is) in
+    let h = (sym (heard written_answer c.parts_size.ensures c.in-Bytes.is)) in let whole = built_wrote _ e _ h (rest_done (rest_then _ (built_rest _ e _ h) c.write_front-to.ensures) c.write_back-end.ensures) in record { result_value = whole.0; out_after = whole.1 }

@@ -5,12 +5,11 @@ use Rattle.vmd_parts.proofs.Size.{checked, small, refused_built, sized_built}
 use Rattle.vmd_parts.proofs.build_vmd_size.Goals as goal
 
 pub parts_size-requires : goal.parts_size-requires
-parts_size-requires c κs = small _ (checked _ (heard check_of c.parts_check.ensures c.enum_told-1.given.1))
+parts_size-requires c = small _ (checked _ (heard check_of c.parts_check.ensures c.in-Passes.is))
 
 pub returns-in-Fails : goal.returns-in-Fails
-returns-in-Fails c = refused_built _ _ (heard check_of c.parts_check.ensures c.k-1.given.1)
+returns-in-Fails c = refused_built _ _ (heard check_of c.parts_check.ensures c.in-Fails.is)
 
 pub returns-in-Passes : goal.returns-in-Passes
 returns-in-Passes c =
-    let p = c.before.before.before in
-    sized_built _ _ (heard check_of p.parts_check.ensures c.enum_told-1.given.1) c.parts_size.ensures
+    sized_built _ _ (heard check_of c.parts_check.ensures c.in-Passes.is) c.parts_size.ensures

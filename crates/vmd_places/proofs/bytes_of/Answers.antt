@@ -9,17 +9,14 @@ use Rattle.vmd_places.proofs.bytes_of.Goals as goal
 
 pub overflow_add-at : goal.overflow_add-at
 overflow_add-at c =
-    let t = c.before in
-    omega (arith, rw t.place-1.given.1 at t.requires)
+    omega (arith, rw c.in-At.is at c.requires)
 
 pub returns-in-Refused : goal.returns-in-Refused
 unfolding part_in
-returns-in-Refused c = rw c.enum_told-1.given.1 refl
+returns-in-Refused c = rw c.in-Refused.is refl
 
 pub returns-in-At : goal.returns-in-At
 unfolding part_in there map_answer or_empty
 returns-in-At c =
-    let t = c.before.before in
-    let s = t.before.before.before in
-    let h = rw t.place-1.given.1 at s.requires in
-    rw (t.place-1.given.1, bytes_length s.args.file.now _ s.args.n h) c.file_part.ensures
+    let h = rw c.in-At.is at c.requires in
+    rw (c.in-At.is, bytes_length c.args.file.now _ c.args.n h) c.file_part.ensures

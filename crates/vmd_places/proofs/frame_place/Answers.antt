@@ -6,8 +6,8 @@ use Rattle.vmd_places.proofs.frame_place.Goals as goal
 
 pub returns-then-holds_frame : goal.returns-then-holds_frame
 unfolding frame_place unless
-returns-then-holds_frame c = rw (sym c.Holds-Frame.ensures ∙ c.if-holds_frame.true)
+returns-then-holds_frame c = rw (sym c.holds_frame.ensures ∙ c.if-holds_frame.true)
 
 pub returns : goal.returns
 unfolding frame_place unless
-returns c = rw (sym c.Holds-Frame.ensures ∙ c.if-holds_frame.false)
+returns c = rw (sym c.holds_frame.ensures ∙ c.if-holds_frame.false)

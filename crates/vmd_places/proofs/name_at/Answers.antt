@@ -9,6 +9,5 @@ use Rattle.vmd_places.proofs.name_at.Goals as goal
 pub returns : goal.returns
 unfolding name_in
 returns c =
-    let t = c.before in
-    let a = t.args in
-    c.file_part.ensures ∙ ap (λ l. file_part a.at (length l)) (t.trim_fixed_bytes-n.ensures ∙ ap before_zero (range_is a.file.now a.at a.width))
+    let a = c.args in
+    c.file_part.ensures ∙ ap (λ l. file_part a.at (length l)) (c.trim_fixed_bytes-n.ensures ∙ ap before_zero (range_is a.file.now a.at a.width))

@@ -12,13 +12,11 @@ returns-then-file-place c = sym (place_outside _ _ _ _ (omega arith))
 
 pub overflow_mul-offset : goal.overflow_mul-offset
 overflow_mul-offset c =
-    let s = c.before.before.before in
-    omega (arith, offset_fits s.args.i s.args.section.count s.args.record-size (omega arith) (omega arith) s.requires)
+    omega (arith, offset_fits c.args.i c.args.section.count c.args.record_size (omega arith) (omega arith) c.requires)
 
 pub overflow_add-offset : goal.overflow_add-offset
 overflow_add-offset c =
-    let s = c.before.before.before in
-    omega (arith, offset_fits s.args.i s.args.section.count s.args.record-size (omega arith) (omega arith) s.requires)
+    omega (arith, offset_fits c.args.i c.args.section.count c.args.record_size (omega arith) (omega arith) c.requires)
 
 pub returns-then-file-place-2 : goal.returns-then-file-place-2
 returns-then-file-place-2 c = sym (place_outside _ _ _ _ (omega arith))

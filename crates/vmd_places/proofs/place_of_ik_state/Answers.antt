@@ -9,27 +9,22 @@ use Rattle.vmd_places.proofs.place_of_ik_state.Goals as goal
 
 pub overflow_add-at : goal.overflow_add-at
 overflow_add-at c =
-    let t = c.before in
-    omega (arith, property_ends _ _ _ _ _ (sym t.place_of_property.ensures ∙ ap place_answer t.at-1.given.1))
+    omega (arith, property_ends _ _ _ _ _ (sym c.place_of_property.ensures ∙ ap place_answer c.in-At.is))
 
 pub read_u32_le-count-requires : goal.read_u32_le-count-requires
-read_u32_le-count-requires c κs =
-    let t = c.before in
-    omega (arith, property_ends _ _ _ _ _ (sym t.place_of_property.ensures ∙ ap place_answer t.at-1.given.1))
+read_u32_le-count-requires c =
+    omega (arith, property_ends _ _ _ _ _ (sym c.place_of_property.ensures ∙ ap place_answer c.in-At.is))
 
 pub overflow_add-place : goal.overflow_add-place
 overflow_add-place c =
-    let t = c.before.before in
-    omega (arith, property_ends _ _ _ _ _ (sym t.place_of_property.ensures ∙ ap place_answer t.at-1.given.1))
+    omega (arith, property_ends _ _ _ _ _ (sym c.place_of_property.ensures ∙ ap place_answer c.in-At.is))
 
 pub returns-in-Refused : goal.returns-in-Refused
 unfolding ik_place and_then
 returns-in-Refused c =
-    let t = c.before in
-    rw (sym t.place_of_property.ensures ∙ ap place_answer t.k-1.given.1)
+    rw (sym c.place_of_property.ensures ∙ ap place_answer c.in-Refused.is)
 
 pub returns-in-At : goal.returns-in-At
 unfolding ik_place and_then ik_extent
 returns-in-At c =
-    let t = c.before.before.before in
-    rw (sym t.place_of_property.ensures ∙ ap place_answer t.at-1.given.1, ← c.read_u32_le-count.ensures) c.place_of.ensures
+    rw (sym c.place_of_property.ensures ∙ ap place_answer c.in-At.is, ← c.read_u32_le-count.ensures) c.place_of.ensures

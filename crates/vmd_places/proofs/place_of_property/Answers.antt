@@ -13,11 +13,9 @@ returns-then-scratch-j c = sym (scratch_past _ _ _ _ (omega arith) (omega arith)
 
 pub returns-in-Refused : goal.returns-in-Refused
 returns-in-Refused c =
-    let t = c.before in
-    sym (property_refused _ _ _ _ (omega arith) (omega arith) _ (sym t.walk_frames.ensures ∙ ap place_answer t.k-1.given.1))
+    sym (property_refused _ _ _ _ (omega arith) (omega arith) _ (sym c.walk_frames.ensures ∙ ap place_answer c.in-Refused.is))
 
 pub returns-in-At : goal.returns-in-At
 returns-in-At c =
-    let t = c.before.before in
     c.frame_place.ensures
-    ∙ sym (property_walked _ _ _ _ (omega arith) (omega arith) _ (sym t.walk_frames.ensures ∙ ap place_answer t.at-1.given.1))
+    ∙ sym (property_walked _ _ _ _ (omega arith) (omega arith) _ (sym c.walk_frames.ensures ∙ ap place_answer c.in-At.is))

@@ -11,15 +11,11 @@ loop-i-init c = (omega arith, rw sub-zero)
 
 pub returns-in-Refused : goal.returns-in-Refused
 returns-in-Refused c =
-    let t = c.before in
-    let w = t.before.before in
-    sym (walk_refused _ _ _ _ (omega arith) _ (sym w.next_place.ensures ∙ ap place_answer t.k-1.given.1)) ∙ w.loop-i.invariant.1
+    sym (walk_refused _ _ _ _ (omega arith) _ (sym c.next_place.ensures ∙ ap place_answer c.in-Refused.is)) ∙ c.loop-i.invariant.1
 
 pub loop-i-preserved : goal.loop-i-preserved
 loop-i-preserved c =
-    let t = c.before in
-    let w = t.before.before in
-    (omega arith, sym (walk_step _ _ _ _ (omega arith) _ (sym w.next_place.ensures ∙ ap place_answer t.next-1.given.1)) ∙ w.loop-i.invariant.1)
+    (omega arith, sym (walk_step _ _ _ _ (omega arith) _ (sym c.next_place.ensures ∙ ap place_answer c.in-At.is)) ∙ c.loop-i.invariant.1)
 
 pub returns : goal.returns
 returns c = sym (walk_done _ _ _ (omega arith)) ∙ c.loop-i.invariant.1

@@ -5,7 +5,7 @@ use Rattle.vmd_places.proofs.Fields.{bone_name, field_there}
 use Rattle.vmd_reader.proofs.bone_name_part.Goals as goal
 
 pub name_of-requires : goal.name_of-requires
-name_of-requires c κs = name_holds c.args.file.now c.place_of-place.ensures (record_holds 111 _ _ _) 15 (omega arith)
+name_of-requires c = name_holds c.args.file.now c.place_of-place.ensures (record_holds 111 _ _ _) 15 (omega arith)
 
 pub returns : goal.returns
 returns c = rw (field_there bone_name _ _ _, ← c.place_of-place.ensures) c.name_of.ensures

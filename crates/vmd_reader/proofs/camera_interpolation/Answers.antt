@@ -4,7 +4,7 @@ use Rattle.vmd_places.proofs.Fields.{camera_interpolation, field_cuts}
 use Rattle.vmd_reader.proofs.camera_interpolation.Goals as goal
 
 pub cut-requires : goal.cut-requires
-cut-requires c κs = cut_inside c.camera_interpolation_part.ensures (field_cuts camera_interpolation _ _ _)
+cut-requires c = cut_inside c.camera_interpolation_part.ensures (field_cuts camera_interpolation _ _ _)
 
 pub returns : goal.returns
 returns c = cut_named c.camera_interpolation_part.ensures (field_cuts camera_interpolation _ _ _) _ c.cut.ensures

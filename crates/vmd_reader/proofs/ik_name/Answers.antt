@@ -4,7 +4,7 @@ use Rattle.vmd_places.proofs.Fields.{ik_name_cuts}
 use Rattle.vmd_reader.proofs.ik_name.Goals as goal
 
 pub cut-requires : goal.cut-requires
-cut-requires c κs = cut_inside c.ik_name_part.ensures (ik_name_cuts _ _ _ _ _)
+cut-requires c = cut_inside c.ik_name_part.ensures (ik_name_cuts _ _ _ _ _)
 
 pub returns : goal.returns
 returns c = cut_named c.ik_name_part.ensures (ik_name_cuts _ _ _ _ _) _ c.cut.ensures

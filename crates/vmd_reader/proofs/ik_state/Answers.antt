@@ -7,11 +7,8 @@ use Rattle.vmd_reader.proofs.ik_state.Goals as goal
 
 pub returns-in-Refused : goal.returns-in-Refused
 returns-in-Refused c =
-    let t = c.before in
-    refused (ik_read _ _ _ _ _) ik_fields _ (sym t.place_of_ik_state.ensures ∙ ap place_answer t.k-1.given.1)
+    refused (ik_read _ _ _ _ _) ik_fields _ (sym c.place_of_ik_state.ensures ∙ ap place_answer c.in-Refused.is)
 
 pub returns-in-At : goal.returns-in-At
 returns-in-At c =
-    let b = c.before in
-    let t = b.before.before in
-    found (ik_read _ _ _ _ _) ik_fields _ _ _ (sym t.place_of_ik_state.ensures ∙ ap place_answer t.at-1.given.1) b.bytes_from.ensures c.from_bytes.ensures
+    found (ik_read _ _ _ _ _) ik_fields _ _ _ (sym c.place_of_ik_state.ensures ∙ ap place_answer c.in-At.is) c.bytes_from.ensures c.from_bytes.ensures

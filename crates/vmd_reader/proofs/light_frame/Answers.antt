@@ -9,11 +9,8 @@ use Rattle.vmd_reader.proofs.light_frame.Goals as goal
 
 pub returns-in-Refused : goal.returns-in-Refused
 returns-in-Refused c =
-    let t = c.before in
-    refused (record_read light 28 light_size _ _ _) light_floats _ (sym t.place_of.ensures ∙ ap place_answer t.k-1.given.1)
+    refused (record_read light 28 light_size _ _ _) light_floats _ (sym c.place_of.ensures ∙ ap place_answer c.in-Refused.is)
 
 pub returns-in-At : goal.returns-in-At
 returns-in-At c =
-    let b = c.before in
-    let t = b.before.before in
-    found (record_read light 28 light_size _ _ _) light_floats _ _ _ (sym t.place_of.ensures ∙ ap place_answer t.at-1.given.1) b.bytes_from.ensures c.from_bytes.ensures
+    found (record_read light 28 light_size _ _ _) light_floats _ _ _ (sym c.place_of.ensures ∙ ap place_answer c.in-At.is) c.bytes_from.ensures c.from_bytes.ensures

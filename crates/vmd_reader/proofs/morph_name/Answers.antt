@@ -4,7 +4,7 @@ use Rattle.vmd_places.proofs.Fields.{morph_name, field_cuts}
 use Rattle.vmd_reader.proofs.morph_name.Goals as goal
 
 pub cut-requires : goal.cut-requires
-cut-requires c κs = cut_inside c.morph_name_part.ensures (field_cuts morph_name _ _ _)
+cut-requires c = cut_inside c.morph_name_part.ensures (field_cuts morph_name _ _ _)
 
 pub returns : goal.returns
 returns c = cut_named c.morph_name_part.ensures (field_cuts morph_name _ _ _) _ c.cut.ensures

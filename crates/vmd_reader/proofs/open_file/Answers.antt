@@ -6,26 +6,24 @@ use Rattle.vmd_laws.specs.InsideLaws.{inside_file}
 use Rattle.vmd_base.specs.Meaning.{manner_of}
 use Rattle.vmd_reader.proofs.Laws.{open_refused, open_scanned, scratch_refused, scratch_scanned}
 use Rattle.vmd_reader.proofs.open_file.Goals as goal
-use Rattle.vmd_reader.proofs.open_file.Lts as lts
 
 -- the scan that the answer of `scan_file` says
-scanned : (c : lts.After-scan_file) → let a = c.args in scan_file (manner_of a.manner) a.file.now ≡ scan_answer c.scan_file.result
+scanned : (c : goal.After-scan_file) → let a = c.args in scan_file (manner_of a.manner) a.file.now ≡ scan_answer c.scan_file.result
 scanned c = sym c.scan_file.ensures
 
 pub open_sections-requires : goal.open_sections-requires
-open_sections-requires c κs =
+open_sections-requires c =
     let t = c.before.before in
-    inside_file _ _ _ (scanned t.before.before ∙ ap scan_answer t.sections-1.given.1)
+    inside_file _ _ _ (scanned t.before.before ∙ ap scan_answer c.in-Scanned.is)
 
 pub returns-in-Refused : goal.returns-in-Refused
 returns-in-Refused c =
     let t = c.before in
-    let e = scanned t.before.before ∙ ap scan_answer t.k-1.given.1 in
+    let e = scanned t.before.before ∙ ap scan_answer c.in-Refused.is in
     record { result_value = open_refused _ _ _ _ e; scratch_left = scratch_refused _ _ _ _ e }
 
 pub returns-in-Scanned : goal.returns-in-Scanned
 returns-in-Scanned c =
-    let o = c.before.before in
     let t = o.before.before.before in
-    let e = scanned t.before.before ∙ ap scan_answer t.sections-1.given.1 in
-    record { result_value = o.open_sections.ensures.result_value ∙ open_scanned _ _ _ _ e; scratch_left = o.open_sections.ensures.scratch_left ∙ scratch_scanned _ _ _ _ e }
+    let e = scanned t.before.before ∙ ap scan_answer c.in-Scanned.is in
+    record { result_value = c.open_sections.ensures.result_value ∙ open_scanned _ _ _ _ e; scratch_left = c.open_sections.ensures.scratch_left ∙ scratch_scanned _ _ _ _ e }

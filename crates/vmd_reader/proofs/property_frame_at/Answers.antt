@@ -6,11 +6,8 @@ use Rattle.vmd_reader.proofs.property_frame_at.Goals as goal
 
 pub returns-in-Refused : goal.returns-in-Refused
 returns-in-Refused c =
-    let t = c.before in
-    step_refused _ _ _ (sym t.next_place.ensures ∙ ap place_answer t.k-1.given.1)
+    step_refused _ _ _ (sym c.next_place.ensures ∙ ap place_answer c.in-Refused.is)
 
 pub returns-in-At : goal.returns-in-At
 returns-in-At c =
-    let b = c.before in
-    let t = b.before.before in
-    step_found _ _ _ _ _ (sym t.next_place.ensures ∙ ap place_answer t.next-1.given.1) b.bytes_from.ensures c.from_bytes.ensures
+    step_found _ _ _ _ _ (sym c.next_place.ensures ∙ ap place_answer c.in-At.is) c.bytes_from.ensures c.from_bytes.ensures

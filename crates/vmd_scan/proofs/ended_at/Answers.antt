@@ -9,8 +9,8 @@ returns-then-file-next c = rw (le-leb _ _ c.if-file-next.true)
 
 pub returns-in-Ignored : goal.returns-in-Ignored
 unfolding over_if
-returns-in-Ignored c = rw (lt-leb _ _ c.if-file-next.false, c.enum_told-1.given.1)
+returns-in-Ignored c = rw (lt-leb _ _ c.if-file-next.false, c.in-Ignored.is)
 
 pub returns-in-Refused : goal.returns-in-Refused
 unfolding over_if
-returns-in-Refused c = rw (lt-leb _ _ c.if-file-next.false, c.over-1.given.1)
+returns-in-Refused c = rw (lt-leb _ _ c.if-file-next.false, c.in-Refused.is)

@@ -6,8 +6,8 @@ use Rattle.vmd_scan.proofs.over_in.Goals as goal
 
 pub returns-in-Strict : goal.returns-in-Strict
 unfolding strict
-returns-in-Strict c = sym (ap (λ m. (manner_of m).over) c.enum_told-1.given.1)
+returns-in-Strict c = sym (ap (λ m. (manner_of m).over) c.in-Strict.is)
 
 pub returns-in-Lenient : goal.returns-in-Lenient
 unfolding lenient
-returns-in-Lenient c = sym (ap (λ m. (manner_of m).over) c.enum_told-in-Lenient-1.given.1)
+returns-in-Lenient c = sym (ap (λ m. (manner_of m).over) c.in-Lenient.is)

@@ -4,8 +4,8 @@ use Rattle.vmd_scan.proofs.oversized_section.Goals as goal
 
 pub returns-in-Refused : goal.returns-in-Refused
 unfolding over_span
-returns-in-Refused c = rw c.oversized-1.given.1
+returns-in-Refused c = rw c.in-Refused.is
 
 pub returns-in-Emptied : goal.returns-in-Emptied
 unfolding over_span
-returns-in-Emptied c = rw c.enum_told-1.given.1 c.no_section.ensures
+returns-in-Emptied c = rw c.in-Emptied.is c.no_section.ensures

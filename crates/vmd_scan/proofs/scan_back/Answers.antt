@@ -9,39 +9,30 @@ use Rattle.vmd_scan.proofs.scan_back.Goals as goal
 pub returns-in-Refused : goal.returns-in-Refused
 unfolding scan_back and_then extent_in
 returns-in-Refused c =
-    let t1 = c.before in
-    rw (sym t1.read_optional_record_count.ensures ∙ ap span_answer t1.k-1.given.1)
+    rw (sym c.read_optional_record_count.ensures ∙ ap span_answer c.in-Refused.is)
 
 pub returns-in-Refused-read_optional_record_count : goal.returns-in-Refused-read_optional_record_count
 unfolding scan_back and_then extent_in
 returns-in-Refused-read_optional_record_count c =
-    let t2 = c.before in
-    let t1 = t2.before.before.before.before in
     rw (
-      sym t1.read_optional_record_count.ensures ∙ ap span_answer t1.lights-1.given.1,
-      sym t2.read_optional_record_count-in-Found.ensures ∙ ap span_answer t2.k-in-Refused-read_optional_record_count-2-1.given.1,
+      sym c.read_optional_record_count.ensures ∙ ap span_answer c.in-Found.is,
+      sym c.read_optional_record_count-in-Found.ensures ∙ ap span_answer c.in-Refused-read_optional_record_count.is,
     )
 
 pub returns-in-Refused-read_optional_record_count-2 : goal.returns-in-Refused-read_optional_record_count-2
 unfolding scan_back and_then extent_in
 returns-in-Refused-read_optional_record_count-2 c =
-    let t3 = c.before in
-    let t2 = t3.before.before.before.before in
-    let t1 = t2.before.before.before.before in
     rw (
-      sym t1.read_optional_record_count.ensures ∙ ap span_answer t1.lights-1.given.1,
-      sym t2.read_optional_record_count-in-Found.ensures ∙ ap span_answer t2.self_shadows-1.given.1,
-      sym t3.read_optional_record_count-in-Found-read_optional_record_count.ensures ∙ ap span_answer t3.k-in-Refused-read_optional_record_count-3-1.given.1,
+      sym c.read_optional_record_count.ensures ∙ ap span_answer c.in-Found.is,
+      sym c.read_optional_record_count-in-Found.ensures ∙ ap span_answer c.in-Found-read_optional_record_count.is,
+      sym c.read_optional_record_count-in-Found-read_optional_record_count.ensures ∙ ap span_answer c.in-Refused-read_optional_record_count-2.is,
     )
 
 pub returns-in-Found-read_optional_record_count-2 : goal.returns-in-Found-read_optional_record_count-2
 unfolding scan_back and_then extent_in
 returns-in-Found-read_optional_record_count-2 c =
-    let t3 = c.before in
-    let t2 = t3.before.before.before.before in
-    let t1 = t2.before.before.before.before in
     rw (
-      sym t1.read_optional_record_count.ensures ∙ ap span_answer t1.lights-1.given.1,
-      sym t2.read_optional_record_count-in-Found.ensures ∙ ap span_answer t2.self_shadows-1.given.1,
-      sym t3.read_optional_record_count-in-Found-read_optional_record_count.ensures ∙ ap span_answer t3.properties-1.given.1,
+      sym c.read_optional_record_count.ensures ∙ ap span_answer c.in-Found.is,
+      sym c.read_optional_record_count-in-Found.ensures ∙ ap span_answer c.in-Found-read_optional_record_count.is,
+      sym c.read_optional_record_count-in-Found-read_optional_record_count.ensures ∙ ap span_answer c.in-Found-read_optional_record_count-2.is,
     )

@@ -9,13 +9,10 @@ use Rattle.vmd_scan.proofs.scan_end.Goals as goal
 pub returns-in-Refused : goal.returns-in-Refused
 unfolding scan_end and_then
 returns-in-Refused c =
-    let t = c.before in
-    rw (sym t.walk_property_frames.ensures ∙ ap walk_answer t.k-1.given.1)
+    rw (sym c.walk_property_frames.ensures ∙ ap walk_answer c.in-Refused.is)
 
 pub returns-in-Walked : goal.returns-in-Walked
 unfolding scan_end and_then
 returns-in-Walked c =
-    let o = c.before.before in
-    let t = o.before.before in
-    rw (sym t.walk_property_frames.ensures ∙ ap walk_answer t.next-1.given.1, sym o.over_in.ensures)
+    rw (sym c.walk_property_frames.ensures ∙ ap walk_answer c.in-Walked.is, sym c.over_in.ensures)
     (c.ended_at.ensures ∙ ap (over_if _ _) c.all_sections.ensures)

@@ -7,18 +7,15 @@ use Rattle.vmd_header.proofs.Laws.{sections_begin, header_headed, header_refused
 use Rattle.vmd_scan.proofs.scan_file.Goals as goal
 
 pub scan_sections-requires : goal.scan_sections-requires
-scan_sections-requires c κs =
-    let t = c.before in
-    (header_headed _ _ (sym t.read_header.ensures ∙ ap header_answer t.header-1.given.1)).starts
+scan_sections-requires c =
+    (header_headed _ _ (sym c.read_header.ensures ∙ ap header_answer c.in-Read.is)).starts
 
 pub returns-in-Refused : goal.returns-in-Refused
 unfolding scan_file and_then
 returns-in-Refused c =
-    let t = c.before in
-    rw (header_refused _ _ (sym t.read_header.ensures ∙ ap header_answer t.k-1.given.1))
+    rw (header_refused _ _ (sym c.read_header.ensures ∙ ap header_answer c.in-Refused.is))
 
 pub returns-in-Read : goal.returns-in-Read
 unfolding scan_file and_then
 returns-in-Read c =
-    let t = c.before.before in
-    rw (sections_begin _ _ (sym t.read_header.ensures ∙ ap header_answer t.header-1.given.1)) c.scan_sections.ensures
+    rw (sections_begin _ _ (sym c.read_header.ensures ∙ ap header_answer c.in-Read.is)) c.scan_sections.ensures

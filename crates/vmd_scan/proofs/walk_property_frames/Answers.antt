@@ -14,20 +14,17 @@ returns-then-file-at-lt-SIZE c = sym (walk_short _ _ _ _ (omega arith) (omega ar
 
 pub returns-then-file-at : goal.returns-then-file-at
 returns-then-file-at c =
-    let r = c.before in
-    sym (walk_over _ _ _ _ _ (omega arith) (omega arith) r.read_u32_le-count.ensures (omega arith)) ∙ r.loop-i.invariant.3
+    sym (walk_over _ _ _ _ _ (omega arith) (omega arith) c.read_u32_le-count.ensures (omega arith)) ∙ c.loop-i.invariant.3
 
 pub loop-i-preserved : goal.loop-i-preserved
 loop-i-preserved c =
-    let r = c.before in
-    let l = r.before.before.before in
-    let a = l.args in (
+    let a = c.args in (
       omega arith,
       omega arith,
       omega arith,
-      walk_turn a.file.now a.n l.loop-i.i l.loop-i.at l.loop-i.ik-states r.read_u32_le-count.result (omega arith) (omega arith)
-          r.read_u32_le-count.ensures (omega arith)
-          ∙ l.loop-i.invariant.3,
+      walk_turn a.file.now a.n c.loop-i.i c.loop-i.at c.loop-i.ik_states c.read_u32_le-count.result (omega arith) (omega arith)
+          c.read_u32_le-count.ensures (omega arith)
+          ∙ c.loop-i.invariant.3,
     )
 
 pub returns : goal.returns

@@ -5,5 +5,4 @@ use Rattle.vmd_season.proofs.also_fits.Goals as goal
 
 pub returns-then-so_far : goal.returns-then-so_far
 returns-then-so_far c =
-    let s = c.before in
-    rw c.if-so_far.true (left_of_64 s.args.figure s.args.more (omega arith))
+    rw c.if-so_far.true (left_of_64 c.args.figure c.args.more (omega arith))

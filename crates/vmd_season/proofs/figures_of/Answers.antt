@@ -4,6 +4,4 @@ use Rattle.vmd_season.proofs.figures_of.Goals as goal
 
 pub returns : goal.returns
 returns c =
-    let n = c.before in
-    let s = n.before.before in
-    figures_found _ _ s.requires n.count_tracks-bone_names.ensures c.count_tracks-morph_names.ensures
+    figures_found _ _ c.requires c.count_tracks-bone_names.ensures c.count_tracks-morph_names.ensures

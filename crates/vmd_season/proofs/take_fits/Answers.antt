@@ -6,9 +6,4 @@ use Rattle.vmd_season.proofs.take_fits.Goals as goal
 pub returns : goal.returns
 unfolding take_fits
 returns c =
-    let a = c.before in
-    let f = a.before in
-    let b = f.before in
-    let r = b.before in
-    let t = r.before in
-    c.also_fits.ensures ∙ rw (a.also_fits-morph_names.ensures, f.also_fits-bone_names.ensures, b.also_fits-records.ensures, t.totals_fit-totals.ensures, r.records_of.ensures)
+    c.also_fits.ensures ∙ rw (c.also_fits-morph_names.ensures, c.also_fits-bone_names.ensures, c.also_fits-records.ensures, c.totals_fit-totals.ensures, c.records_of.ensures)

@@ -4,20 +4,15 @@ use Rattle.vmd_season.specs.Season.{taken_if}
 use Rattle.vmd_season.proofs.taken_if_it_fits.Goals as goal
 
 pub with_take-requires : goal.with_take-requires
-with_take-requires c κs =
-    let t = c.before in
-    sym t.take_fits.ensures ∙ c.if-take_fits.true
+with_take-requires c =
+    sym c.take_fits.ensures ∙ c.if-take_fits.true
 
 pub returns-then-take_fits : goal.returns-then-take_fits
 unfolding taken_if
 returns-then-take_fits c =
-    let i = c.before in
-    let t = i.before in
-    c.with_take.ensures ∙ rw (sym t.take_fits.ensures ∙ i.if-take_fits.true)
+    c.with_take.ensures ∙ rw (sym c.take_fits.ensures ∙ c.if-take_fits.true)
 
 pub returns : goal.returns
 unfolding taken_if
 returns c =
-    let i = c.before in
-    let t = i.before in
-    c.with_refused.ensures ∙ rw (sym t.take_fits.ensures ∙ i.if-take_fits.false)
+    c.with_refused.ensures ∙ rw (sym c.take_fits.ensures ∙ c.if-take_fits.false)

@@ -6,10 +6,10 @@ use mathlib.Core.Path.{refl, ap}
 use Rattle.vmd_slots.proofs.report_tidied.Goals as goal
 
 pub returns-in-Refused : goal.returns-in-Refused
-returns-in-Refused c = let e = ap tidy_answer c.answer-1.given.1 in
+returns-in-Refused c = let e = ap tidy_answer c.in-Refused.is in
     (status_declined e c.number.ensures, slot_declined _ _ e, slot_declined _ _ e, slot_declined _ _ e)
 
 pub returns-in-Tidied : goal.returns-in-Tidied
 unfolding count_words
-returns-in-Tidied c = let e = ap tidy_answer c.answer-in-Tidied-1.given.1 in
+returns-in-Tidied c = let e = ap tidy_answer c.in-Tidied.is in
     (status_given e, slot_given (λ t. t.bytes) _ e refl, slot_given (λ t. count_words t.kept) _ e refl, slot_given (λ t. count_words t.dropped) _ e refl)

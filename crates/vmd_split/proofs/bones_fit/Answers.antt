@@ -6,7 +6,4 @@ use Rattle.vmd_split.proofs.bones_fit.Goals as goal
 pub returns : goal.returns
 unfolding bone_room
 returns c =
-    let a = c.before in
-    let f = a.before in
-    let b = f.before in
-    c.also_fits.ensures ∙ rw (a.also_fits-three.ensures, f.also_fits-two.ensures, b.also_fits-one.ensures)
+    c.also_fits.ensures ∙ rw (c.also_fits-three.ensures, c.also_fits-two.ensures, c.also_fits-one.ensures)

@@ -6,5 +6,4 @@ use Rattle.vmd_split.proofs.morphs_fit.Goals as goal
 pub returns : goal.returns
 unfolding morph_room
 returns c =
-    let a = c.before in
-    c.also_fits.ensures ∙ rw a.also_fits-one.ensures
+    c.also_fits.ensures ∙ rw c.also_fits-one.ensures

@@ -8,8 +8,7 @@ use Rattle.vmd_split.proofs.properties_fit.Goals as goal
 
 pub returns-then-bytes-heads : goal.returns-then-bytes-heads
 returns-then-bytes-heads c =
-    let s = c.before in
-    sym (lt-leb (9 * s.args.frames + 21 * s.args.ik-states) s.args.bytes (omega (arith, c.if-bytes-heads.true)))
+    sym (lt-leb (9 * c.args.frames + 21 * c.args.ik_states) c.args.bytes (omega (arith, c.if-bytes-heads.true)))
 
 pub returns : goal.returns
 returns c = states_fit _ _ _ c.if-bytes-heads.false

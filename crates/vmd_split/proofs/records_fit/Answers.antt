@@ -6,14 +6,9 @@ use Rattle.vmd_split.proofs.records_fit.Goals as goal
 pub returns-then-also_fits : goal.returns-then-also_fits
 unfolding record_room
 returns-then-also_fits c =
-    let i = c.before in
-    let a = i.before in
-    let f = a.before in
-    c.properties_fit.ensures ∙ rw (sym f.also_fits-one.ensures, sym a.also_fits.ensures, i.if-also_fits.true)
+    c.properties_fit.ensures ∙ rw (sym c.also_fits-one.ensures, sym c.also_fits.ensures, c.if-also_fits.true)
 
 pub returns : goal.returns
 unfolding record_room
 returns c =
-    let a = c.before in
-    let f = a.before in
-    rw (sym f.also_fits-one.ensures, sym a.also_fits.ensures, c.if-also_fits.false)
+    rw (sym c.also_fits-one.ensures, sym c.also_fits.ensures, c.if-also_fits.false)

@@ -8,41 +8,25 @@ use Rattle.vmd_split.proofs.Laws.{counted, sizes_refused, sizes_given, sizes_ove
 use Rattle.vmd_split.proofs.split_file_sizes.Goals as goal
 
 pub count_names-bones-requires : goal.count_names-bones-requires
-count_names-bones-requires c κs =
-    let b = c.before.before in
-    let s = b.before.before in
-    let i = inside_file _ _ _ (heard scan_answer s.scan_file.ensures b.a-1.given.1) in
+count_names-bones-requires c =
+    let i = inside_file _ _ _ (heard scan_answer c.scan_file.ensures c.in-Scanned.is) in
     omega (arith, i.bones.ends)
 
 pub count_names-morphs-requires : goal.count_names-morphs-requires
-count_names-morphs-requires c κs =
-    let b = c.before.before.before.before in
-    let s = b.before.before in
-    let i = inside_file _ _ _ (heard scan_answer s.scan_file.ensures b.a-1.given.1) in
+count_names-morphs-requires c =
+    let i = inside_file _ _ _ (heard scan_answer c.scan_file.ensures c.in-Scanned.is) in
     omega (arith, i.morphs.ends)
 
 pub returns-then-also_fits : goal.returns-then-also_fits
 returns-then-also_fits c =
-    let f = c.before in
-    let n = f.before in
-    let b = n.before.before in
-    let d = b.before.before.before in
-    let s = d.before.before in
-    let x = scan_is d.a-1.given.0.0 in
-    sizes_given _ _ (heard scan_answer s.scan_file.ensures d.a-1.given.1) (counted _ x.bones 111 b.count_names-bones.ensures) (counted _ x.morphs 23 n.count_names-morphs.ensures) (sym f.also_fits.ensures ∙ c.if-also_fits.true)
+    let x = scan_is c.in-Scanned.a in
+    sizes_given _ _ (heard scan_answer c.scan_file.ensures c.in-Scanned.is) (counted _ x.bones 111 c.count_names-bones.ensures) (counted _ x.morphs 23 c.count_names-morphs.ensures) (sym c.also_fits.ensures ∙ c.if-also_fits.true)
 
 pub returns-in-Refused : goal.returns-in-Refused
 returns-in-Refused c =
-    let a = c.before in
-    let s = a.before.before in
-    sizes_refused _ _ (heard scan_answer s.scan_file.ensures a.k-1.given.1)
+    sizes_refused _ _ (heard scan_answer c.scan_file.ensures c.in-Refused.is)
 
 pub returns-else-also_fits : goal.returns-else-also_fits
 returns-else-also_fits c =
-    let f = c.before in
-    let n = f.before in
-    let b = n.before.before in
-    let d = b.before.before.before in
-    let s = d.before.before in
-    let x = scan_is d.a-1.given.0.0 in
-    sizes_over _ _ (heard scan_answer s.scan_file.ensures d.a-1.given.1) (counted _ x.bones 111 b.count_names-bones.ensures) (counted _ x.morphs 23 n.count_names-morphs.ensures) (sym f.also_fits.ensures ∙ c.if-also_fits.false)
+    let x = scan_is c.in-Scanned.a in
+    sizes_over _ _ (heard scan_answer c.scan_file.ensures c.in-Scanned.is) (counted _ x.bones 111 c.count_names-bones.ensures) (counted _ x.morphs 23 c.count_names-morphs.ensures) (sym c.also_fits.ensures ∙ c.if-also_fits.false)

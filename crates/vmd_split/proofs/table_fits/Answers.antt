@@ -12,19 +12,12 @@ use Rattle.vmd_split.proofs.table_fits.Goals as goal
 
 pub returns-then-also_fits : goal.returns-then-also_fits
 returns-then-also_fits c =
-    let a = c.before in
-    let f = a.before in
-    let s = f.before.before in
-    let d = s.before in
-    let n = d.args.section.count in
-    let e = ap (λ b. b && leb (15 * n) 4294967295) (sym f.also_fits-easy.ensures) ∙ sym a.also_fits.ensures ∙ c.if-also_fits.true in
-    always_room _ _ _ n (λ k. omega (arith, s.shared_slice_known-1.given k)) _ _ e
+    let n = c.args.section.count in
+    let e = ap (λ b. b && leb (15 * n) 4294967295) (sym c.also_fits-easy.ensures) ∙ sym c.also_fits.ensures ∙ c.if-also_fits.true in
+    always_room _ _ _ n (λ k. omega (arith, c.shared_slice_known-1.given k)) _ _ e
 
 pub returns : goal.returns
 unfolding table_room
 returns c =
-    let a = c.before in
-    let n = a.before in
-    let s = n.before.before.before.before.before.before in
-    let k = counted _ (extent_is s.args.section) _ n.count_names-table.ensures in
-    c.also_fits-2.ensures ∙ rw (a.also_fits-in_bytes.ensures, k.bytes-are, k.names-are)
+    let k = counted _ (extent_is c.args.section) _ c.count_names-table.ensures in
+    c.also_fits-2.ensures ∙ rw (c.also_fits-in_bytes.ensures, k.bytes_are, k.names_are)

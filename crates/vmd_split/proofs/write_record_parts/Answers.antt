@@ -6,32 +6,24 @@ use Rattle.vmd_split.proofs.Room.{record_rooms, rows_room, frames_room, wrote_ov
 use Rattle.vmd_split.proofs.write_record_parts.Goals as goal
 
 pub write_records-requires : goal.write_records-requires
-write_records-requires c κs =
-    let s = c.before.before.before.before.before.before.before in
-    (omega (arith, s.requires.0.inside.cameras.ends), rows_room camera_sized _ _ (record_rooms s.requires.1).cameras-fit)
+write_records-requires c =
+    (omega (arith, c.requires.0.inside.cameras.ends), rows_room camera_sized _ _ (record_rooms c.requires.1).cameras-fit)
 
 pub write_records-requires-2 : goal.write_records-requires-2
-write_records-requires-2 c κs =
-    let s = c.before.before.before.before.before.before.before.before.before.before.before.before in
-    (omega (arith, s.requires.0.inside.lights.ends), rows_room light_sized _ _ (record_rooms s.requires.1).lights-fit)
+write_records-requires-2 c =
+    (omega (arith, c.requires.0.inside.lights.ends), rows_room light_sized _ _ (record_rooms c.requires.1).lights-fit)
 
 pub write_records-requires-3 : goal.write_records-requires-3
-write_records-requires-3 c κs =
-    let s = c.before.before.before.before.before.before.before.before.before.before.before.before.before.before.before.before.before in
-    (omega (arith, s.requires.0.inside.self-shadows.ends), rows_room self_shadow_sized _ _ (record_rooms s.requires.1).self-shadows-fit)
+write_records-requires-3 c =
+    (omega (arith, c.requires.0.inside.self_shadows.ends), rows_room self_shadow_sized _ _ (record_rooms c.requires.1).self-shadows-fit)
 
 pub write_properties-requires : goal.write_properties-requires
-write_properties-requires c κs =
-    let s = c.before.before.before.before.before.before.before.before.before.before.before.before.before.before.before.before.before.before.before.before.before.before in
-    (inside_reaches _ _ s.requires.0.inside, frames_room s.requires.0 (record_rooms s.requires.1).properties-fit)
+write_properties-requires c =
+    (inside_reaches _ _ c.requires.0.inside, frames_room c.requires.0 (record_rooms c.requires.1).properties-fit)
 
 pub shape_of-camera_frames : goal.shape_of-camera_frames
 shape_of-camera_frames c = c.write_records.auto.out
 
 pub returns : goal.returns
 returns c =
-    let w = c.before.before in
-    let r = w.before.before.before.before.before in
-    let a = r.before.before.before.before.before in
-    let b = a.before.before.before.before.before in
-    record { cameras-are = wrote_over b.write_records.ensures; lights-are = wrote_over a.write_records-2.ensures; self-shadows-are = wrote_over r.write_records-3.ensures; properties-are = wrote_over w.write_properties.ensures }
+    record { cameras-are = wrote_over c.write_records.ensures; lights-are = wrote_over c.write_records-2.ensures; self-shadows-are = wrote_over c.write_records-3.ensures; properties-are = wrote_over c.write_properties.ensures }

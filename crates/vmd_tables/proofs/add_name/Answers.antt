@@ -7,17 +7,13 @@ use Rattle.vmd_tables.proofs.Numbering.{trimmed, copied}
 use Rattle.vmd_tables.proofs.add_name.Goals as goal
 
 pub copy_bytes-requires : goal.copy_bytes-requires
-copy_bytes-requires c κs =
-    let t = c.before in
-    let a = t.before.before.before.before in
-    let e = ap length (trimmed a.args.s.now a.args.p t.trim_fixed_bytes-name.ensures) in
+copy_bytes-requires c =
+    let e = ap length (trimmed c.args.s.now c.args.p c.trim_fixed_bytes-name.ensures) in
     (omega arith, omega arith)
 
 pub returns : goal.returns
 returns c =
-    let b = c.before.before in
-    let t = b.before.before in
-    let a = t.before.before.before.before in (
-      copied a.args.s.now a.args.p a.args.bytes.now a.args.to t.trim_fixed_bytes-name.ensures b.copy_bytes.ensures,
-      ap (λ l. a.args.to + length l) (trimmed a.args.s.now a.args.p t.trim_fixed_bytes-name.ensures),
+    (
+      copied c.args.s.now c.args.p c.args.bytes.now c.args.to c.trim_fixed_bytes-name.ensures c.copy_bytes.ensures,
+      ap (λ l. c.args.to + length l) (trimmed c.args.s.now c.args.p c.trim_fixed_bytes-name.ensures),
     )

@@ -11,14 +11,10 @@ returns-then-k-eq0 c = alone (λ (q : ℕ) (e : q + 1 ≡ c.args.k) d. omega ari
 
 pub returns-then-same_name : goal.returns-then-same_name
 returns-then-same_name c =
-    let i = c.before in
-    let s = i.before in
-    after (omega arith) (eqb-true _ _ (sym s.same_name.ensures ∙ i.if-same_name.true)) refl
+    after (omega arith) (eqb-true _ _ (sym c.same_name.ensures ∙ c.if-same_name.true)) refl
 
 pub returns : goal.returns
 returns c =
-    let s = c.before in
-    let a = s.before.before.before.before.before.before.before in
-    alone (λ (q : ℕ) (e : q + 1 ≡ a.args.k) d.
-    let z : q ≡ a.args.k - 1 = omega arith in
-    eqb-false _ _ (sym s.same_name.ensures ∙ c.if-same_name.false) (rw z at d)) refl
+    alone (λ (q : ℕ) (e : q + 1 ≡ c.args.k) d.
+    let z : q ≡ c.args.k - 1 = omega arith in
+    eqb-false _ _ (sym c.same_name.ensures ∙ c.if-same_name.false) (rw z at d)) refl

@@ -18,7 +18,7 @@ loop-i-init c =
     )
 
 pub earlier_record-e-requires : goal.earlier_record-e-requires
-earlier_record-e-requires c κs = (omega arith, c.requires.1, omega arith, omega arith)
+earlier_record-e-requires c = (omega arith, c.requires.1, omega arith, omega arith)
 
 pub overflow_cast-leads : goal.overflow_cast-leads
 overflow_cast-leads c = omega (arith, c.earlier_record-e.ensures.0)
@@ -31,30 +31,26 @@ bounds-leads-i c = omega (arith, c.loop-i.invariant.3.long)
 
 pub offset_bounds-list-m : goal.offset_bounds-list-m
 offset_bounds-list-m c =
-    let l = c.before.before.before.before.before in
-    omega (arith, l.loop-i.invariant.4.long, l.loop-i.invariant.2.few)
+    omega (arith, c.loop-i.invariant.4.long, c.loop-i.invariant.2.few)
 
 pub bounds-list-m : goal.bounds-list-m
 bounds-list-m c =
-    let l = c.before.before.before.before.before in
-    omega (arith, l.loop-i.invariant.4.long, l.loop-i.invariant.2.few)
+    omega (arith, c.loop-i.invariant.4.long, c.loop-i.invariant.2.few)
 
 pub next_if-m-requires : goal.next_if-m-requires
-next_if-m-requires c κs = omega (arith, c.loop-i.invariant.2.few)
+next_if-m-requires c = omega (arith, c.loop-i.invariant.2.few)
 
 pub loop-i-preserved : goal.loop-i-preserved
 loop-i-preserved c =
-    let e = c.before.before.before in
-    let l = e.before.before.before in
-    let v = l.loop-i.invariant in
-    let h : l.loop-i.i < length l.loop-i.leads = omega (arith, v.3.long) in
-    let k : l.loop-i.m < length l.loop-i.list = omega (arith, v.4.long, v.2.few) in (
+    let v = c.loop-i.invariant in
+    let h : c.loop-i.i < length c.loop-i.leads = omega (arith, v.3.long) in
+    let k : c.loop-i.m < length c.loop-i.list = omega (arith, v.4.long, v.2.few) in (
       omega arith,
-      leads_turn v.1 v.2 h k e.earlier_record-e.ensures.0 e.earlier_record-e.ensures.1,
-      rw c.next_if-m.ensures (lists_turn v.1 v.2 h k e.earlier_record-e.ensures.0 e.earlier_record-e.ensures.1),
-      beyond_set v.3 l.loop-i.i e.earlier_record-e.result (omega arith),
-      beyond_set v.4 l.loop-i.m l.loop-i.i (omega (arith, v.2.few)),
-      e.earlier_record-e.auto.cache ∙ v.5,
+      leads_turn v.1 v.2 h k c.earlier_record-e.ensures.0 c.earlier_record-e.ensures.1,
+      rw c.next_if-m.ensures (lists_turn v.1 v.2 h k c.earlier_record-e.ensures.0 c.earlier_record-e.ensures.1),
+      beyond_set v.3 c.loop-i.i c.earlier_record-e.result (omega arith),
+      beyond_set v.4 c.loop-i.m c.loop-i.i (omega (arith, v.2.few)),
+      c.earlier_record-e.auto.cache ∙ v.5,
     )
 
 pub shape_of-leads : goal.shape_of-leads

@@ -6,22 +6,22 @@ use mathlib.Core.Path.{ap, ◌∙◌}
 use Rattle.vmd_tidy.proofs.counted_fit.Goals as goal
 
 pub count_records-bones-requires : goal.count_records-bones-requires
-count_records-bones-requires c κs = c.requires.inside.bones
+count_records-bones-requires c = c.requires.inside.bones
 
 pub count_records-morphs-requires : goal.count_records-morphs-requires
-count_records-morphs-requires c κs = c.requires.inside.morphs
+count_records-morphs-requires c = c.requires.inside.morphs
 
 pub count_records-cameras-requires : goal.count_records-cameras-requires
-count_records-cameras-requires c κs = c.requires.inside.cameras
+count_records-cameras-requires c = c.requires.inside.cameras
 
 pub count_records-lights-requires : goal.count_records-lights-requires
-count_records-lights-requires c κs = c.requires.inside.lights
+count_records-lights-requires c = c.requires.inside.lights
 
 pub count_records-shadows-requires : goal.count_records-shadows-requires
-count_records-shadows-requires c κs = c.requires.inside.self-shadows
+count_records-shadows-requires c = c.requires.inside.self_shadows
 
 pub count_properties-frames-requires : goal.count_properties-frames-requires
-count_properties-frames-requires c κs = scan_ends c.args.s.now (scan_is c.args.x) c.requires
+count_properties-frames-requires c = scan_ends c.args.s.now (scan_is c.args.x) c.requires
 
 pub returns : goal.returns
 returns c = let f : Front c.args.s.now (scan_is c.args.x) _ _ _ = record { bones-are = c.count_records-bones.ensures; morphs-are = c.count_records-morphs.ensures; cameras-are = c.count_records-cameras.ensures } in

@@ -15,10 +15,10 @@ pub overflow_sub-result-4 : goal.overflow_sub-result-4
 overflow_sub-result-4 c = omega (arith, c.requires.lights)
 
 pub overflow_sub-result-5 : goal.overflow_sub-result-5
-overflow_sub-result-5 c = omega (arith, c.requires.self-shadows)
+overflow_sub-result-5 c = omega (arith, c.requires.self_shadows)
 
 pub overflow_sub-result-6 : goal.overflow_sub-result-6
 overflow_sub-result-6 c = omega (arith, c.requires.properties)
 
 pub returns : goal.returns
-returns c = record { bones = omega (arith, c.requires.bones); morphs = omega (arith, c.requires.morphs); cameras = omega (arith, c.requires.cameras); lights = omega (arith, c.requires.lights); self-shadows = omega (arith, c.requires.self-shadows); properties = omega (arith, c.requires.properties) }
+returns c = record { bones = omega (arith, c.requires.bones); morphs = omega (arith, c.requires.morphs); cameras = omega (arith, c.requires.cameras); lights = omega (arith, c.requires.lights); self-shadows = omega (arith, c.requires.self_shadows); properties = omega (arith, c.requires.properties) }

@@ -10,13 +10,13 @@ use native.Mathlib.Omega.{arith}
 use Rattle.vmd_tidy.proofs.measure_file.Goals as goal
 
 pub keep_front-f-requires : goal.keep_front-f-requires
-keep_front-f-requires c κs = (c.requires.0, c.requires.1)
+keep_front-f-requires c = (c.requires.0, c.requires.1)
 
 pub keep_back-b-requires : goal.keep_back-b-requires
-keep_back-b-requires c κs = (c.requires.0, omega (arith, c.requires.1, c.keep_front-f.ensures.1.long))
+keep_back-b-requires c = (c.requires.0, omega (arith, c.requires.1, c.keep_front-f.ensures.1.long))
 
 pub dropped_from-requires : goal.dropped_from-requires
-dropped_from-requires c κs = let s = c.args.s.now in
+dropped_from-requires c = let s = c.args.s.now in
     let x = scan_is c.args.x in
     subst (λ k. Fewer k x) (sym (counts_kept s x _ _ _ _ _ _ c.keep_front-f.ensures.0 c.keep_back-b.ensures.0)) (kept_fewer s x c.requires.0)
 

@@ -11,11 +11,11 @@ use mathlib.Core.Path.{refl}
 use Rattle.vmd_tidy.proofs.tidy_file.Goals as goal
 
 pub tidy_scanned-requires : goal.tidy_scanned-requires
-tidy_scanned-requires c κs = scan_scanned (manner_of c.args.manner) _ _ (heard scan_answer c.scan_file.ensures c.x-1.given.1)
+tidy_scanned-requires c = scan_scanned (manner_of c.args.manner) _ _ (heard scan_answer c.scan_file.ensures c.in-Scanned.is)
 
 pub returns-in-Refused : goal.returns-in-Refused
 unfolding map_answer left cleared
-returns-in-Refused c = let whole = rw (read_refused (manner_of c.args.manner) c.args.file.now (length c.args.scratch.now) (length c.args.out.now) _ (heard scan_answer c.scan_file.ensures c.k-1.given.1)) (refl, (refl, refl)) in record { result_value = whole.0; out_after = whole.1; scratch_left = whole.2 }
+returns-in-Refused c = let whole = rw (read_refused (manner_of c.args.manner) c.args.file.now (length c.args.scratch.now) (length c.args.out.now) _ (heard scan_answer c.scan_file.ensures c.in-Refused.is)) (refl, (refl, refl)) in record { result_value = whole.0; out_after = whole.1; scratch_left = whole.2 }
 
 pub returns-in-Scanned : goal.returns-in-Scanned
-returns-in-Scanned c = let whole = rw (read_scanned (manner_of c.args.manner) c.args.file.now (length c.args.scratch.now) (length c.args.out.now) _ (heard scan_answer c.scan_file.ensures c.x-1.given.1)) c.tidy_scanned.ensures in record { result_value = whole.0; out_after = whole.1; scratch_left = whole.2 }
+returns-in-Scanned c = let whole = rw (read_scanned (manner_of c.args.manner) c.args.file.now (length c.args.scratch.now) (length c.args.out.now) _ (heard scan_answer c.scan_file.ensures c.in-Scanned.is)) c.tidy_scanned.ensures in record { result_value = whole.0; out_after = whole.1; scratch_left = whole.2 }

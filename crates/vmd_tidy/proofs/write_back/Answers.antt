@@ -9,22 +9,22 @@ use native.Mathlib.Omega.{arith}
 use Rattle.vmd_tidy.proofs.write_back.Goals as goal
 
 pub write_tidied-l-requires : goal.write_tidied-l-requires
-write_tidied-l-requires c κs = let s = c.args.s.now in
+write_tidied-l-requires c = let s = c.args.s.now in
     let x = scan_is c.args.x in
     let g = largest x in
     let r = back_rest s x c.requires.2 in
     (c.requires.0.inside.lights, omega (arith, g.lights, c.requires.1), rest_room (shadow_bytes s x ++ frame_bytes s x) r)
 
 pub write_tidied-d-requires : goal.write_tidied-d-requires
-write_tidied-d-requires c κs = let s = c.args.s.now in
+write_tidied-d-requires c = let s = c.args.s.now in
     let x = scan_is c.args.x in
     let g = largest x in
     let r = back_rest s x c.requires.2 in
     let q = rest_then (shadow_bytes s x ++ frame_bytes s x) r c.write_tidied-l.ensures.0 in
-    (c.requires.0.inside.self-shadows, omega (arith, g.self-shadows, c.requires.1, c.write_tidied-l.ensures.2.long), rest_room (frame_bytes s x) q)
+    (c.requires.0.inside.self_shadows, omega (arith, g.self_shadows, c.requires.1, c.write_tidied-l.ensures.2.long), rest_room (frame_bytes s x) q)
 
 pub write_tidied_properties-p-requires : goal.write_tidied_properties-p-requires
-write_tidied_properties-p-requires c κs = let s = c.args.s.now in
+write_tidied_properties-p-requires c = let s = c.args.s.now in
     let x = scan_is c.args.x in
     let g = largest x in
     let r = back_rest s x c.requires.2 in
@@ -42,4 +42,4 @@ returns c = let s = c.args.s.now in
     let r = back_rest s x c.requires.2 in
     let q = rest_then (shadow_bytes s x ++ frame_bytes s x) r c.write_tidied-l.ensures.0 in
     let t = rest_then (frame_bytes s x) q c.write_tidied-d.ensures.0 in
-    (rest_done t c.write_tidied_properties-p.ensures.0, record { lights-are = c.write_tidied-l.ensures.1; shadows-are = c.write_tidied-d.ensures.1; properties-are = c.write_tidied_properties-p.ensures.1 }, beyond_then (beyond_then (beyond_wider g.lights c.write_tidied-l.ensures.2) (beyond_wider g.self-shadows c.write_tidied-d.ensures.2)) (beyond_wider g.properties c.write_tidied_properties-p.ensures.2))
+    (rest_done t c.write_tidied_properties-p.ensures.0, record { lights-are = c.write_tidied-l.ensures.1; shadows-are = c.write_tidied-d.ensures.1; properties-are = c.write_tidied_properties-p.ensures.1 }, beyond_then (beyond_then (beyond_wider g.lights c.write_tidied-l.ensures.2) (beyond_wider g.self_shadows c.write_tidied-d.ensures.2)) (beyond_wider g.properties c.write_tidied_properties-p.ensures.2))

@@ -9,14 +9,14 @@ use native.Mathlib.Omega.{arith}
 use Rattle.vmd_tidy.proofs.write_front.Goals as goal
 
 pub write_tidied-b-requires : goal.write_tidied-b-requires
-write_tidied-b-requires c κs = let s = c.args.s.now in
+write_tidied-b-requires c = let s = c.args.s.now in
     let x = scan_is c.args.x in
     let g = largest x in
     let r = front_rest s x c.requires.2 in
     (c.requires.0.inside.bones, omega (arith, g.bones, c.requires.1), rest_room (morph_bytes s x ++ camera_bytes s x) r)
 
 pub write_tidied-m-requires : goal.write_tidied-m-requires
-write_tidied-m-requires c κs = let s = c.args.s.now in
+write_tidied-m-requires c = let s = c.args.s.now in
     let x = scan_is c.args.x in
     let g = largest x in
     let r = front_rest s x c.requires.2 in
@@ -24,7 +24,7 @@ write_tidied-m-requires c κs = let s = c.args.s.now in
     (c.requires.0.inside.morphs, omega (arith, g.morphs, c.requires.1, c.write_tidied-b.ensures.2.long), rest_room (camera_bytes s x) q)
 
 pub write_tidied-c-requires : goal.write_tidied-c-requires
-write_tidied-c-requires c κs = let s = c.args.s.now in
+write_tidied-c-requires c = let s = c.args.s.now in
     let x = scan_is c.args.x in
     let g = largest x in
     let r = front_rest s x c.requires.2 in

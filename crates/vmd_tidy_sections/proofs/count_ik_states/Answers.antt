@@ -14,7 +14,7 @@ pub overflow_add-p : goal.overflow_add-p
 overflow_add-p c = let h = states_in c.args.s.now _ (all_at (λ p. step c.args.s.now 0 p ≤ length c.args.s.now) c.args.places.now c.requires.0 c.loop-i.i (omega arith)) in omega (arith, h.0)
 
 pub read_u32_le-requires : goal.read_u32_le-requires
-read_u32_le-requires c κs = let h = states_in c.args.s.now _ (all_at (λ p. step c.args.s.now 0 p ≤ length c.args.s.now) c.args.places.now c.requires.0 c.loop-i.i (omega arith)) in omega (arith, h.0)
+read_u32_le-requires c = let h = states_in c.args.s.now _ (all_at (λ p. step c.args.s.now 0 p ≤ length c.args.s.now) c.args.places.now c.requires.0 c.loop-i.i (omega arith)) in omega (arith, h.0)
 
 pub overflow_add-sum : goal.overflow_add-sum
 overflow_add-sum c = omega (arith, c.loop-i.invariant.small, c.requires.1)

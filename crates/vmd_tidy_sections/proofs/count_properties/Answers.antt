@@ -9,7 +9,7 @@ use native.Mathlib.Omega.{arith}
 use Rattle.vmd_tidy_sections.proofs.count_properties.Goals as goal
 
 pub count_kept-kept-requires : goal.count_kept-kept-requires
-count_kept-kept-requires c κs = (c.requires, omega (arith, c.struct_known-1.given), λ x. refl)
+count_kept-kept-requires c = (c.requires, omega (arith, c.struct_known-1.given), λ x. refl)
 
 pub overflow_cast-result : goal.overflow_cast-result
 overflow_cast-result c = omega (arith, c.count_kept-kept.ensures.0, keys_few (there c.args.s.now) (step c.args.s.now 0) c.args.x.count c.args.x.place, c.struct_known-1.given)

@@ -10,7 +10,7 @@ pub loop-i-init : goal.loop-i-init
 loop-i-init c = filled_start _ _ _ _ refl
 
 pub next_place-p-requires : goal.next_place-p-requires
-next_place-p-requires c κs = le_trans (filled_next _ (omega (arith, c.loop-i.invariant.long)) c.loop-i.invariant (step_past _ _)) c.requires
+next_place-p-requires c = le_trans (filled_next _ (omega (arith, c.loop-i.invariant.long)) c.loop-i.invariant (step_past _ _)) c.requires
 
 pub loop-i-smaller : goal.loop-i-smaller
 loop-i-smaller c = omega (arith, c.loop-i.invariant.long)

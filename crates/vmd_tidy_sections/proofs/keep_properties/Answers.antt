@@ -9,7 +9,7 @@ use native.Mathlib.Omega.{arith}
 use Rattle.vmd_tidy_sections.proofs.keep_properties.Goals as goal
 
 pub tidy_properties-n-requires : goal.tidy_properties-n-requires
-tidy_properties-n-requires c κs = c.requires
+tidy_properties-n-requires c = c.requires
 
 pub overflow_cast-result : goal.overflow_cast-result
 overflow_cast-result c = omega (arith, c.tidy_properties-n.ensures.1)
@@ -21,7 +21,7 @@ pub slice_bounds-count_ik_states-end-2 : goal.slice_bounds-count_ik_states-end-2
 slice_bounds-count_ik_states-end-2 c = sym (front_count c.tidy_properties-n.result c.tidy_properties-n.new.0 (omega (arith, c.tidy_properties-n.ensures.1, c.tidy_properties-n.ensures.2.long, c.requires.1)))
 
 pub count_ik_states-requires : goal.count_ik_states-requires
-count_ik_states-requires c κs = let a = c.args in
+count_ik_states-requires c = let a = c.args in
     let t = c.tidy_properties-n.ensures in
     let n = c.tidy_properties-n.result in
     let l = c.tidy_properties-n.new.0 in

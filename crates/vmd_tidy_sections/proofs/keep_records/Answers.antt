@@ -6,7 +6,7 @@ use native.Mathlib.Omega.{arith}
 use Rattle.vmd_tidy_sections.proofs.keep_records.Goals as goal
 
 pub tidy_records-requires : goal.tidy_records-requires
-tidy_records-requires c κs = c.requires
+tidy_records-requires c = c.requires
 
 pub overflow_cast-result : goal.overflow_cast-result
 overflow_cast-result c = omega (arith, c.tidy_records.ensures.1)

@@ -8,7 +8,7 @@ use Prim.Native.Nat.{◌-◌, ◌≤◌, ◌+◌}
 use Rattle.vmd_tidy_sections.proofs.run_length.Goals as goal
 
 pub next_place-next-requires : goal.next_place-next-requires
-next_place-next-requires c κs = all_at (λ p. step c.args.s.now c.args.size p ≤ length c.args.s.now) c.args.places.now c.requires.1 c.args.i (omega arith)
+next_place-next-requires c = all_at (λ p. step c.args.s.now c.args.size p ≤ length c.args.s.now) c.args.places.now c.requires.1 c.args.i (omega arith)
 
 pub loop-n-init : goal.loop-n-init
 loop-n-init c = let e = c.next_place-next.ensures in
@@ -18,7 +18,7 @@ pub returns-then-places-i : goal.returns-then-places-i
 returns-then-places-i c = let r = c.loop-n.invariant in (r.0.some, r.0.within, r.0.are, rw (← r.0.ends) r.1)
 
 pub next_place-next-requires-in-loop-n : goal.next_place-next-requires-in-loop-n
-next_place-next-requires-in-loop-n c κs = let e : get_or c.args.places.now (c.args.i + c.loop-n.n) 0 ≡ c.loop-n.next = omega (arith, c.if-places-i.false) in
+next_place-next-requires-in-loop-n c = let e : get_or c.args.places.now (c.args.i + c.loop-n.n) 0 ≡ c.loop-n.next = omega (arith, c.if-places-i.false) in
     subst (λ p. step c.args.s.now c.args.size p ≤ length c.args.s.now) e (all_at (λ p. step c.args.s.now c.args.size p ≤ length c.args.s.now) c.args.places.now c.requires.1 (c.args.i + c.loop-n.n) (omega arith))
 
 pub loop-n-preserved : goal.loop-n-preserved

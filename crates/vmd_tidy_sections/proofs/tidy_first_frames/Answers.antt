@@ -12,7 +12,7 @@ pub slice_bounds-tidy_frames-end-2 : goal.slice_bounds-tidy_frames-end-2
 slice_bounds-tidy_frames-end-2 c = sym (front_count c.args.n c.args.a.now c.requires.0)
 
 pub tidy_frames-requires : goal.tidy_frames-requires
-tidy_frames-requires c κs = rw (front_count c.args.n c.args.a.now c.requires.0) c.requires.1
+tidy_frames-requires c = rw (front_count c.args.n c.args.a.now c.requires.0) c.requires.1
 
 pub returns : goal.returns
 returns c = let a = c.args in

@@ -8,10 +8,10 @@ use native.Mathlib.Omega.{arith}
 use Rattle.vmd_tidy_sections.proofs.tidy_frames.Goals as goal
 
 pub fill_places-requires : goal.fill_places-requires
-fill_places-requires c κs = c.requires
+fill_places-requires c = c.requires
 
 pub tidy_places-requires : goal.tidy_places-requires
-tidy_places-requires c κs = rw c.fill_places.ensures (places_rise _ (step_past _ _) _ _)
+tidy_places-requires c = rw c.fill_places.ensures (places_rise _ (step_past _ _) _ _)
 
 pub returns : goal.returns
 returns c = let f = c.fill_places.ensures in

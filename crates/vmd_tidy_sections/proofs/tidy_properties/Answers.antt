@@ -5,7 +5,7 @@ use mathlib.Core.Path.{◌∙◌}
 use Rattle.vmd_tidy_sections.proofs.tidy_properties.Goals as goal
 
 pub tidy_first_frames-requires : goal.tidy_first_frames-requires
-tidy_first_frames-requires c κs = (c.requires.1, c.requires.0)
+tidy_first_frames-requires c = (c.requires.1, c.requires.0)
 
 pub shape_of-a : goal.shape_of-a
 shape_of-a c = c.tidy_first_frames.ensures.2.long

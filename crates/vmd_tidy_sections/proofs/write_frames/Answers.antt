@@ -8,10 +8,10 @@ pub loop-i-init : goal.loop-i-init
 loop-i-init c = left_start _ _ _ _ c.requires.1
 
 pub run_length-n-requires : goal.run_length-n-requires
-run_length-n-requires c κs = (omega arith, c.requires.0)
+run_length-n-requires c = (omega arith, c.requires.0)
 
 pub write_properties-q-requires : goal.write_properties-q-requires
-write_properties-q-requires c κs = let a = c.args in
+write_properties-q-requires c = let a = c.args in
     (frames_reach _ _ _ c.run_length-n.ensures.3, run_room _ _ _ _ c.run_length-n.result c.loop-i.invariant c.run_length-n.ensures.1 (run_frames a.s.now a.places.now c.loop-i.i c.run_length-n.result c.run_length-n.ensures.2))
 
 pub overflow_add-i : goal.overflow_add-i

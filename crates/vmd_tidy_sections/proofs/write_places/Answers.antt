@@ -13,10 +13,10 @@ pub loop-i-init : goal.loop-i-init
 loop-i-init c = left_start _ _ _ _ c.requires.2
 
 pub run_length-n-requires : goal.run_length-n-requires
-run_length-n-requires c κs = (omega arith, c.requires.1)
+run_length-n-requires c = (omega arith, c.requires.1)
 
 pub write_records-q-requires : goal.write_records-q-requires
-write_records-q-requires c κs = let a = c.args in
+write_records-q-requires c = let a = c.args in
     let k = a.kind in
     let w = subst (λ z. end_by (step a.s.now z) c.run_length-n.result (get_or a.places.now c.loop-i.i 0) ≤ length a.s.now) c.requires.0 c.run_length-n.ensures.3 in
     let e = end_fixed a.s.now (size_of k) c.run_length-n.result (get_or a.places.now c.loop-i.i 0) (kind_some k) in

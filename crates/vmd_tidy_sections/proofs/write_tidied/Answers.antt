@@ -14,13 +14,13 @@ use native.Mathlib.Omega.{arith}
 use Rattle.vmd_tidy_sections.proofs.write_tidied.Goals as goal
 
 pub tidy_records-n-requires : goal.tidy_records-n-requires
-tidy_records-n-requires c κs = (c.requires.0, c.requires.1)
+tidy_records-n-requires c = (c.requires.0, c.requires.1)
 
 pub overflow_cast-n : goal.overflow_cast-n
 overflow_cast-n c = omega (arith, c.tidy_records-n.ensures.1, c.requires.1)
 
 pub write_count-p-requires : goal.write_count-p-requires
-write_count-p-requires c κs = let a = c.args in
+write_count-p-requires c = let a = c.args in
     let t = c.tidy_records-n.ensures in
     let n = c.tidy_records-n.result in
     let l = c.tidy_records-n.new.0 in
@@ -34,7 +34,7 @@ pub slice_bounds-write_places-end-2 : goal.slice_bounds-write_places-end-2
 slice_bounds-write_places-end-2 c = sym (front_count c.tidy_records-n.result c.tidy_records-n.new.0 (omega (arith, c.tidy_records-n.ensures.1, c.tidy_records-n.ensures.2.long, c.requires.1)))
 
 pub write_places-end-requires : goal.write_places-end-requires
-write_places-end-requires c κs = let a = c.args in
+write_places-end-requires c = let a = c.args in
     let t = c.tidy_records-n.ensures in
     let n = c.tidy_records-n.result in
     let l = c.tidy_records-n.new.0 in

@@ -12,13 +12,13 @@ use native.Mathlib.Omega.{arith}
 use Rattle.vmd_tidy_sections.proofs.write_tidied_properties.Goals as goal
 
 pub tidy_properties-n-requires : goal.tidy_properties-n-requires
-tidy_properties-n-requires c κs = (c.requires.0, c.requires.1)
+tidy_properties-n-requires c = (c.requires.0, c.requires.1)
 
 pub overflow_cast-n : goal.overflow_cast-n
 overflow_cast-n c = omega (arith, c.tidy_properties-n.ensures.1, c.requires.1)
 
 pub write_count-p-requires : goal.write_count-p-requires
-write_count-p-requires c κs = let a = c.args in
+write_count-p-requires c = let a = c.args in
     let t = c.tidy_properties-n.ensures in
     let n = c.tidy_properties-n.result in
     let l = c.tidy_properties-n.new.0 in
@@ -32,7 +32,7 @@ pub slice_bounds-write_frames-end-2 : goal.slice_bounds-write_frames-end-2
 slice_bounds-write_frames-end-2 c = sym (front_count c.tidy_properties-n.result c.tidy_properties-n.new.0 (omega (arith, c.tidy_properties-n.ensures.1, c.tidy_properties-n.ensures.2.long, c.requires.1)))
 
 pub write_frames-end-requires : goal.write_frames-end-requires
-write_frames-end-requires c κs = let a = c.args in
+write_frames-end-requires c = let a = c.args in
     let t = c.tidy_properties-n.ensures in
     let n = c.tidy_properties-n.result in
     let l = c.tidy_properties-n.new.0 in

@@ -9,6 +9,5 @@ overflow_cast-end c = omega (arith, c.shared_slice_known-2-1.given c.index_befor
 
 pub returns : goal.returns
 returns c =
-    let b = c.before.before in
-    let a = b.args in
-    c.unless_first.ensures ∙ rw b.index_before.ensures (start_is a.ends.now a.i)
+    let a = c.args in
+    c.unless_first.ensures ∙ rw c.index_before.ensures (start_is a.ends.now a.i)

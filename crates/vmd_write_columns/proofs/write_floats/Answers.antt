@@ -12,10 +12,10 @@ pub bounds-xs-p : goal.bounds-xs-p
 bounds-xs-p c = omega (arith, c.loop-left.invariant.lie)
 
 pub float_to_bits-bits-requires : goal.float_to_bits-bits-requires
-float_to_bits-bits-requires c κs = pouring_fine c.loop-left.invariant (omega arith)
+float_to_bits-bits-requires c = pouring_fine c.loop-left.invariant (omega arith)
 
 pub write_u32_le-requires : goal.write_u32_le-requires
-write_u32_le-requires c κs = omega (arith, c.loop-left.invariant.fill.room)
+write_u32_le-requires c = omega (arith, c.loop-left.invariant.fill.room)
 
 pub overflow_add-p : goal.overflow_add-p
 overflow_add-p c = omega (arith, c.loop-left.invariant.lie)
@@ -25,9 +25,7 @@ overflow_add-q c = omega (arith, c.loop-left.invariant.fill.room)
 
 pub loop-left-preserved : goal.loop-left-preserved
 loop-left-preserved c =
-    let w = c.before.before in
-    let f = w.before.before in
-    pouring_turn f.loop-left.invariant (omega arith) f.Float-to_bits.ensures w.write_u32_le.ensures
+    pouring_turn c.loop-left.invariant (omega arith) c.float_to_bits-bits.ensures c.write_u32_le.ensures
 
 pub shape_of-out : goal.shape_of-out
 shape_of-out c = c.loop-left.invariant.fill.rest.kept

@@ -5,9 +5,4 @@ use Rattle.vmd_write_columns.proofs.write_morph_frame.Goals as goal
 
 pub returns : goal.returns
 returns c =
-    let w = c.before.before in
-    let f = w.before.before in
-    let l = f.before.before.before in
-    let a = l.before.before.before.before in
-    let s = a.before.before.before.before in
-    morph_written (run s.args.names.now s.args.start s.args.n) s.args.frame s.args.weight s.args.out.now s.args.to s.requires.3 a.write_table_name.ensures l.write_u32_le.ensures f.Float-to_bits.ensures w.write_u32_le-2.ensures
+    morph_written (run c.args.names.now c.args.start c.args.n) c.args.frame c.args.weight c.args.out.now c.args.to c.requires.3 c.write_table_name.ensures c.write_u32_le.ensures c.float_to_bits-bits.ensures c.write_u32_le-2.ensures

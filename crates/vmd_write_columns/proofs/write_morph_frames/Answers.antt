@@ -14,51 +14,39 @@ pub overflow_cast-name : goal.overflow_cast-name
 overflow_cast-name c = omega (arith, c.shared_slice_known-in-loop-i-1.given c.loop-i.i)
 
 pub name_start-start-requires : goal.name_start-start-requires
-name_start-start-requires c κs =
-    let l = c.before.before in
-    let s = l.before.before.before.before.before.before.before in
-    morph_index s.args.weights.now s.requires.0 l.loop-i.i (omega arith)
+name_start-start-requires c =
+    morph_index c.args.weights.now c.requires.0 c.loop-i.i (omega arith)
 
 pub offset_bounds-morph_name_ends-name : goal.offset_bounds-morph_name_ends-name
 offset_bounds-morph_name_ends-name c = omega (arith, c.shared_slice_known-in-loop-i-1.given c.loop-i.i)
 
 pub bounds-morph_name_ends-name : goal.bounds-morph_name_ends-name
 bounds-morph_name_ends-name c =
-    let l = c.before.before.before.before in
-    let s = l.before.before.before.before.before.before.before in
-    omega (arith, morph_index s.args.weights.now s.requires.0 l.loop-i.i (omega arith))
+    omega (arith, morph_index c.args.weights.now c.requires.0 c.loop-i.i (omega arith))
 
 pub overflow_cast-n : goal.overflow_cast-n
 overflow_cast-n c =
-    let l = c.before.before.before.before in
-    omega (arith, c.shared_slice_known-in-loop-i-2-1.given (get_or l.args.indices.now l.loop-i.i 0))
+    omega (arith, c.shared_slice_known-in-loop-i-2-1.given (get_or c.args.indices.now c.loop-i.i 0))
 
 pub overflow_sub-n : goal.overflow_sub-n
 overflow_sub-n c =
-    let l = c.before.before.before.before in
-    let s = l.before.before.before.before.before.before.before in
-    (morph_named s.args.weights.now s.requires.0 l.loop-i.i (omega arith) c.name_start-start.ensures).begins
+    (morph_named c.args.weights.now c.requires.0 c.loop-i.i (omega arith) c.name_start-start.ensures).begins
 
 pub bounds-frames-i : goal.bounds-frames-i
 bounds-frames-i c =
-    let s = c.before.before.before.before.before.before.before.before.before.before.before.before in
-    omega (arith, s.requires.0.framed)
+    omega (arith, c.requires.0.framed)
 
 pub bounds-weights-i : goal.bounds-weights-i
 bounds-weights-i c =
-    let s = c.before.before.before.before.before.before.before.before.before.before.before.before.before in
-    omega (arith, s.requires.0.weighed, bits_length s.args.weights.now)
+    omega (arith, c.requires.0.weighed, bits_length c.args.weights.now)
 
 pub write_morph_frame-requires : goal.write_morph_frame-requires
-write_morph_frame-requires c κs =
-    let n = c.before.before.before.before in
-    let l = n.before.before.before in
-    let s = l.before.before.before.before.before.before.before in
-    let d = morph_named s.args.weights.now s.requires.0 l.loop-i.i (omega arith) n.name_start-start.ensures in (
+write_morph_frame-requires c =
+    let d = morph_named c.args.weights.now c.requires.0 c.loop-i.i (omega arith) c.name_start-start.ensures in (
       d.short,
       omega (arith, d.begins, d.within),
-      morph_finite s.args.weights.now s.requires.0 l.loop-i.i (omega arith) (omega (arith, s.requires.0.weighed, bits_length s.args.weights.now)),
-      columned_room l.loop-i.invariant (omega arith),
+      morph_finite c.args.weights.now c.requires.0 c.loop-i.i (omega arith) (omega (arith, c.requires.0.weighed, bits_length c.args.weights.now)),
+      columned_room c.loop-i.invariant (omega arith),
     )
 
 pub overflow_add-q : goal.overflow_add-q
@@ -66,14 +54,10 @@ overflow_add-q c = omega (arith, columned_room c.loop-i.invariant (omega arith))
 
 pub loop-i-preserved : goal.loop-i-preserved
 loop-i-preserved c =
-    let w = c.before.before in
-    let n = w.before.before.before.before.before in
-    let l = n.before.before.before in
-    let s = l.before.before.before.before.before.before.before in
-    let a = s.args in
-    columned_turn l.loop-i.invariant (omega arith) w.write_morph_frame.ensures
-    (morph_is (table_of a.morph-name-bytes.now a.morph-name-ends.now) a.indices.now a.frames.now a.weights.now l.loop-i.i
-    (omega (arith, s.requires.0.weighed, bits_length a.weights.now)) (morph_named a.weights.now s.requires.0 l.loop-i.i (omega arith) n.name_start-start.ensures).is)
+    let a = c.args in
+    columned_turn c.loop-i.invariant (omega arith) c.write_morph_frame.ensures
+    (morph_is (table_of a.morph_name_bytes.now a.morph_name_ends.now) a.indices.now a.frames.now a.weights.now c.loop-i.i
+    (omega (arith, c.requires.0.weighed, bits_length a.weights.now)) (morph_named a.weights.now c.requires.0 c.loop-i.i (omega arith) c.name_start-start.ensures).is)
 
 pub shape_of-out : goal.shape_of-out
 shape_of-out c = c.loop-i.invariant.fill.rest.kept

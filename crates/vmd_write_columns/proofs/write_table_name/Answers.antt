@@ -15,15 +15,7 @@ returns-then-bytes-start-lt-NAME_WORDS c =
 
 pub returns : goal.returns
 returns c =
-    let q = c.before.before in
-    let p = q.before.before.before.before in
-    let v = p.before.before in
-    let y = v.before in
-    let u = y.before in
-    let x = u.before in
-    let k = x.before in
-    let s = k.before.before.before.before in
-    let a = s.args in
-    name_written x.word_at.result y.word_at-2.result u.low_bytes-low.result v.low_bytes-high.result a.bytes.now a.start a.n a.out.now a.to
-    s.requires.0 s.requires.2 k.past_word-past.ensures x.word_at.ensures u.low_bytes-low.ensures y.word_at-2.ensures v.low_bytes-high.ensures
-    p.put_word.ensures q.put_word-2.ensures
+    let a = c.args in
+    name_written c.word_at.result c.word_at-2.result c.low_bytes-low.result c.low_bytes-high.result a.bytes.now a.start a.n a.out.now a.to
+    c.requires.0 c.requires.2 c.past_word-past.ensures c.word_at.ensures c.low_bytes-low.ensures c.word_at-2.ensures c.low_bytes-high.ensures
+    c.put_word.ensures c.put_word-2.ensures

@@ -8,8 +8,6 @@ use Rattle.vmd_write_properties.proofs.write_ik_state.Goals as goal
 
 pub returns : goal.returns
 returns c =
-    let front = c.before.before.before.before in
-    let known = front.before.before.before in
-    let s = known.args in
-    flagged s.src.now s.out.now s.at s.to (λ i. (known.shared_slice_known-1.given i).fits) 20 (λ u. padded 20 (before_zero u)) (λ b. flag_byte (is_set b)) ik_state_rewrites (padded_length _ _) (omega arith) (omega arith)
-    front.write_name.ensures c.canonical_flag-flag.ensures
+    let s = c.args in
+    flagged s.src.now s.out.now s.at s.to (λ i. (c.shared_slice_known-1.given i).fits) 20 (λ u. padded 20 (before_zero u)) (λ b. flag_byte (is_set b)) ik_state_rewrites (padded_length _ _) (omega arith) (omega arith)
+    c.write_name.ensures c.canonical_flag-flag.ensures

@@ -8,8 +8,7 @@ loop-states-init c = going_start ik_state_sized c.requires.0 c.requires.1
 
 pub loop-states-preserved : goal.loop-states-preserved
 loop-states-preserved c =
-    let turn = c.before.before in
-    going_turn ik_state_sized turn.loop-states.invariant (omega arith) turn.write_ik_state.ensures
+    going_turn ik_state_sized c.loop-states.invariant (omega arith) c.write_ik_state.ensures
 
 pub shape_of-out : goal.shape_of-out
 shape_of-out c = c.loop-states.invariant.fill.rest.kept

@@ -8,23 +8,20 @@ loop-frames-init c = walking_start c.requires.0 c.requires.1
 
 pub property_length-size-requires : goal.property_length-size-requires
 unfolding next_frame
-property_length-size-requires c κs = omega (arith, walking_lies c.loop-frames.invariant (omega arith))
+property_length-size-requires c = omega (arith, walking_lies c.loop-frames.invariant (omega arith))
 
 pub write_property-q-requires : goal.write_property-q-requires
-write_property-q-requires c κs =
+write_property-q-requires c =
     let g = c.loop-frames.invariant in
     (walking_lies g (omega arith), walking_room g (omega arith))
 
 pub overflow_add-p : goal.overflow_add-p
 overflow_add-p c =
-    let sized = c.before.before.before.before in
-    omega (arith, walking_lies sized.loop-frames.invariant (omega arith), sized.property_length-size.ensures)
+    omega (arith, walking_lies c.loop-frames.invariant (omega arith), c.property_length-size.ensures)
 
 pub loop-frames-preserved : goal.loop-frames-preserved
 loop-frames-preserved c =
-    let turn = c.before.before in
-    let size = turn.before.before in
-    walking_turn size.loop-frames.invariant (omega arith) size.property_length-size.result size.property_length-size.ensures turn.write_property-q.ensures
+    walking_turn c.loop-frames.invariant (omega arith) c.property_length-size.result c.property_length-size.ensures c.write_property-q.ensures
 
 pub shape_of-out : goal.shape_of-out
 shape_of-out c = c.loop-frames.invariant.rest.kept

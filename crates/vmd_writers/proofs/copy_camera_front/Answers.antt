@@ -5,7 +5,5 @@ use Rattle.vmd_writers.proofs.copy_camera_front.Goals as goal
 
 pub returns : goal.returns
 returns c =
-    let out = c.before.before in
-    let front = out.before.before.before.before in
-    let s = front.args in
-    through _ s.src.now s.out.now s.at s.to 60 (omega arith) front.copy_bytes.ensures out.copy_bytes-2.ensures
+    let s = c.args in
+    through _ s.src.now s.out.now s.at s.to 60 (omega arith) c.copy_bytes.ensures c.copy_bytes-2.ensures

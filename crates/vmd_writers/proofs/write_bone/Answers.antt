@@ -6,8 +6,6 @@ use Rattle.vmd_writers.proofs.write_bone.Goals as goal
 
 pub returns : goal.returns
 returns c =
-    let name = c.before.before.before.before.before.before in
-    let known = name.before.before.before in
-    let s = known.args in
-    named s.src.now s.out.now s.at s.to (λ i. (known.shared_slice_known-1.given i).fits) 15 96 bone_rewrites (omega arith) (omega arith) (omega arith)
-    name.write_name.ensures c.copy_bytes.ensures
+    let s = c.args in
+    named s.src.now s.out.now s.at s.to (λ i. (c.shared_slice_known-1.given i).fits) 15 96 bone_rewrites (omega arith) (omega arith) (omega arith)
+    c.write_name.ensures c.copy_bytes.ensures

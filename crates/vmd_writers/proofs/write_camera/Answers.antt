@@ -8,8 +8,6 @@ use Rattle.vmd_writers.proofs.write_camera.Goals as goal
 
 pub returns : goal.returns
 returns c =
-    let front = c.before.before.before.before in
-    let known = front.before.before.before in
-    let s = known.args in
-    flagged s.src.now s.out.now s.at s.to (λ i. (known.shared_slice_known-1.given i).fits) 60 (λ u. u) (λ b. inverted_byte (is_zero b)) camera_rewrites (length_run _ _ _ (omega arith)) (omega arith) (omega arith)
-    front.copy_camera_front.ensures c.canonical_inverted-flag.ensures
+    let s = c.args in
+    flagged s.src.now s.out.now s.at s.to (λ i. (c.shared_slice_known-1.given i).fits) 60 (λ u. u) (λ b. inverted_byte (is_zero b)) camera_rewrites (length_run _ _ _ (omega arith)) (omega arith) (omega arith)
+    c.copy_camera_front.ensures c.canonical_inverted-flag.ensures

@@ -8,8 +8,7 @@ loop-left-init c = going_start camera_sized c.requires.0 c.requires.1
 
 pub loop-left-preserved : goal.loop-left-preserved
 loop-left-preserved c =
-    let turn = c.before.before in
-    going_turn camera_sized turn.loop-left.invariant (omega arith) turn.write_camera.ensures
+    going_turn camera_sized c.loop-left.invariant (omega arith) c.write_camera.ensures
 
 pub shape_of-out : goal.shape_of-out
 shape_of-out c = c.loop-left.invariant.fill.rest.kept

@@ -8,8 +8,7 @@ loop-left-init c = going_start morph_sized c.requires.0 c.requires.1
 
 pub loop-left-preserved : goal.loop-left-preserved
 loop-left-preserved c =
-    let turn = c.before.before in
-    going_turn morph_sized turn.loop-left.invariant (omega arith) turn.write_morph.ensures
+    going_turn morph_sized c.loop-left.invariant (omega arith) c.write_morph.ensures
 
 pub shape_of-out : goal.shape_of-out
 shape_of-out c = c.loop-left.invariant.fill.rest.kept

@@ -13,6 +13,6 @@ returns c =
       c.float_at-4.ensures,
       c.float_at-3.ensures,
       c.float_at-2.ensures,
-      c.Float-at.ensures,
+      c.float_at.ensures,
       c.number_at.ensures,
     )

@@ -15,7 +15,7 @@ overflow_mul-bytes c = record { fits = size_fits _ _ (search rules) (search rule
 pub overflow_add-result : goal.overflow_add-result
 overflow_add-result c =
     let a = c.args in
-    omega (arith, leb-true (a.count * a.record-size) (length a.file.now - a.self.pos) (sym c.require_record_bytes.ensures ∙ c.if-require_record_bytes.true))
+    omega (arith, leb-true (a.count * a.record_size) (length a.file.now - a.self.pos) (sym c.require_record_bytes.ensures ∙ c.if-require_record_bytes.true))
 
 pub returns-then-require_record_bytes : goal.returns-then-require_record_bytes
 unfolding counted_span counted_if

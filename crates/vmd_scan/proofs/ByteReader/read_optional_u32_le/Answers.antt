@@ -12,13 +12,11 @@ returns-then-remaining-eq0 c = sym (number_missing _ _ (omega arith))
 pub returns-in-Refused : goal.returns-in-Refused
 unfolding map_answer
 returns-in-Refused c =
-    let r = c.before.before.before in
-    let a = r.args in
-    rw (number_there a.file.now a.self.pos (omega arith), sym r.read_u32_le.ensures ∙ ap number_answer c.k-1.given.1)
+    let a = c.args in
+    rw (number_there a.file.now a.self.pos (omega arith), sym c.read_u32_le.ensures ∙ ap number_answer c.in-Refused.is)
 
 pub returns-in-Value : goal.returns-in-Value
 unfolding map_answer
 returns-in-Value c =
-    let r = c.before.before.before in
-    let a = r.args in
-    rw (number_there a.file.now a.self.pos (omega arith), sym r.read_u32_le.ensures ∙ ap number_answer c.n-1.given.1)
+    let a = c.args in
+    rw (number_there a.file.now a.self.pos (omega arith), sym c.read_u32_le.ensures ∙ ap number_answer c.in-Value.is)

@@ -7,10 +7,9 @@ use Rattle.vmd_scan.proofs.ByteReader.read_record_count.Goals as goal
 
 pub returns-in-Refused : goal.returns-in-Refused
 unfolding and_then
-returns-in-Refused c = rw (span_steps, sym c.read_u32_le.ensures ∙ ap number_answer c.k-1.given.1)
+returns-in-Refused c = rw (span_steps, sym c.read_u32_le.ensures ∙ ap number_answer c.in-Refused.is)
 
 pub returns-in-Value : goal.returns-in-Value
 unfolding and_then
 returns-in-Value c =
-    let n = c.before.before in
-    rw (span_steps, sym n.read_u32_le.ensures ∙ ap number_answer n.count-1.given.1) c.counted_section.ensures
+    rw (span_steps, sym c.read_u32_le.ensures ∙ ap number_answer c.in-Value.is) c.counted_section.ensures
