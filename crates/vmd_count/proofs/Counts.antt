@@ -51,6 +51,7 @@ module _ (v w : List ℕ → ℕ) where
   -- one name does
   below_step : (lo : ℕ) (m : List ℕ) (l : List (List ℕ)) → lo ≤ v m → Once m l → All (λ d. (d ≡ m) ⊎ Clear lo (suc (v m)) d) l
       → sum_below v w lo l + w m ≡ sum_below v w (suc (v m)) l
+  below_step lo m [] g x h = elim x [ ]
   below_step lo m (d ∷ l) g (here n) h =
       let e = below_same lo (suc (v m)) l (omega arith) (rest l n h.1) in
       rw (below_out m l lo g, below_in m l (suc (v m)) (omega arith)) (omega arith)

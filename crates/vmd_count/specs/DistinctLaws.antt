@@ -139,6 +139,7 @@ pub data Once (m : List ℕ) : List (List ℕ) → Type 0 where
 
 once_select : (m : List ℕ) (g : List ℕ → Bool) (l : List (List ℕ)) → g m ≡ true → Once m l → Once m (select g l)
 unfolding select keep_if
+once_select m g [] e x = elim x [ ]
 once_select m g (d ∷ l) e (here h) = rw e (here (all_select _ g l h))
 once_select m g (d ∷ l) e (there q w) = go (g d) (once_select m g l e w)
   where

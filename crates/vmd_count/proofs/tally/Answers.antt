@@ -23,8 +23,8 @@ returns c =
     let k = c.keep_firsts-k.ensures.behind in
     let w = c.weigh-bytes.ensures in
     record {
-      names-add = row_names a.cut s a.at a.size a.n bs _ _ _ _ r q;
-      bytes-add = row_bytes a.cut s a.at a.size a.n bs _ _ _ _ _ r q w.0;
-      names-few = omega arith;
-      bytes-few = omega arith;
+      names_add = row_names a.cut s a.at a.size a.n bs _ _ _ _ r q;
+      bytes_add = row_bytes a.cut s a.at a.size a.n bs _ _ _ _ _ r q w.0;
+      names_few = omega arith;
+      bytes_few = omega arith;
     }

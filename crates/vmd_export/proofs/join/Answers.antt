@@ -7,7 +7,7 @@ use Rattle.vmd_export.proofs.join.Goals as goal
 
 pub write_take-requires : goal.write_take-requires
 write_take-requires c =
-    let good = c.well-formed in
+    let good = c.well_formed in
     both_scanned _ _ _ _ _ (heard both_answer c.scan_both.ensures c.in-Scanned.is) (omega (arith, good)) (omega (arith, good))
 
 pub returns-in-Refused : goal.returns-in-Refused

@@ -11,9 +11,9 @@ use Rattle.vmd_line.proofs.export_size.Goals as goal
 pub returns-in-Refused : goal.returns-in-Refused
 unfolding export_size file_length
 returns-in-Refused c =
-    size_there (scan_is c.args.sections) (omega (arith, c.requires, c.well-formed)) _ _ c.file_size.ensures (ap written_answer c.in-Refused.is)
+    size_there (scan_is c.args.sections) (omega (arith, c.requires, c.well_formed)) _ _ c.file_size.ensures (ap written_answer c.in-Refused.is)
 
 pub returns-in-Bytes : goal.returns-in-Bytes
 unfolding export_size file_length
 returns-in-Bytes c =
-    size_given (scan_is c.args.sections) (omega (arith, c.requires, c.well-formed)) _ _ c.file_size.ensures (ap written_answer c.in-Bytes.is)
+    size_given (scan_is c.args.sections) (omega (arith, c.requires, c.well_formed)) _ _ c.file_size.ensures (ap written_answer c.in-Bytes.is)

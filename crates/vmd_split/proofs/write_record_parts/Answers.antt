@@ -26,4 +26,4 @@ shape_of-camera_frames c = c.write_records.auto.out
 
 pub returns : goal.returns
 returns c =
-    record { cameras-are = wrote_over c.write_records.ensures; lights-are = wrote_over c.write_records-2.ensures; self-shadows-are = wrote_over c.write_records-3.ensures; properties-are = wrote_over c.write_properties.ensures }
+    record { cameras_are = wrote_over c.write_records.ensures; lights_are = wrote_over c.write_records-2.ensures; self_shadows_are = wrote_over c.write_records-3.ensures; properties_are = wrote_over c.write_properties.ensures }

@@ -21,4 +21,4 @@ pub overflow_sub-result-6 : goal.overflow_sub-result-6
 overflow_sub-result-6 c = omega (arith, c.requires.properties)
 
 pub returns : goal.returns
-returns c = record { bones = omega (arith, c.requires.bones); morphs = omega (arith, c.requires.morphs); cameras = omega (arith, c.requires.cameras); lights = omega (arith, c.requires.lights); self-shadows = omega (arith, c.requires.self_shadows); properties = omega (arith, c.requires.properties) }
+returns c = record { bones = omega (arith, c.requires.bones); morphs = omega (arith, c.requires.morphs); cameras = omega (arith, c.requires.cameras); lights = omega (arith, c.requires.lights); self_shadows = omega (arith, c.requires.self_shadows); properties = omega (arith, c.requires.properties) }

@@ -22,4 +22,4 @@ shape_of-a c = c.keep_properties-frames.ensures.2.long ∙ c.keep_records-shadow
 pub returns : goal.returns
 unfolding tidied_at
 returns c = let g = largest (scan_is c.args.x) in
-    (record { lights-are = c.keep_records-lights.ensures.0; shadows-are = c.keep_records-shadows.ensures.0; properties-are = c.keep_properties-frames.ensures.0 }, c.keep_properties-frames.ensures.1, beyond_then (beyond_then (beyond_wider g.lights c.keep_records-lights.ensures.1) (beyond_wider g.self_shadows c.keep_records-shadows.ensures.1)) (beyond_wider g.properties c.keep_properties-frames.ensures.2))
+    (record { lights_are = c.keep_records-lights.ensures.0; shadows_are = c.keep_records-shadows.ensures.0; properties_are = c.keep_properties-frames.ensures.0 }, c.keep_properties-frames.ensures.1, beyond_then (beyond_then (beyond_wider g.lights c.keep_records-lights.ensures.1) (beyond_wider g.self_shadows c.keep_records-shadows.ensures.1)) (beyond_wider g.properties c.keep_properties-frames.ensures.2))

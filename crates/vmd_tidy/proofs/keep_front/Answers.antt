@@ -20,4 +20,4 @@ shape_of-a c = c.keep_records-3.ensures.1.long ∙ c.keep_records-2.ensures.1.lo
 
 pub returns : goal.returns
 returns c = let g = largest (scan_is c.args.x) in
-    (record { bones-are = c.keep_records.ensures.0; morphs-are = c.keep_records-2.ensures.0; cameras-are = c.keep_records-3.ensures.0 }, beyond_then (beyond_then (beyond_wider g.bones c.keep_records.ensures.1) (beyond_wider g.morphs c.keep_records-2.ensures.1)) (beyond_wider g.cameras c.keep_records-3.ensures.1))
+    (record { bones_are = c.keep_records.ensures.0; morphs_are = c.keep_records-2.ensures.0; cameras_are = c.keep_records-3.ensures.0 }, beyond_then (beyond_then (beyond_wider g.bones c.keep_records.ensures.1) (beyond_wider g.morphs c.keep_records-2.ensures.1)) (beyond_wider g.cameras c.keep_records-3.ensures.1))

@@ -42,4 +42,4 @@ returns c = let s = c.args.s.now in
     let r = back_rest s x c.requires.2 in
     let q = rest_then (shadow_bytes s x ++ frame_bytes s x) r c.write_tidied-l.ensures.0 in
     let t = rest_then (frame_bytes s x) q c.write_tidied-d.ensures.0 in
-    (rest_done t c.write_tidied_properties-p.ensures.0, record { lights-are = c.write_tidied-l.ensures.1; shadows-are = c.write_tidied-d.ensures.1; properties-are = c.write_tidied_properties-p.ensures.1 }, beyond_then (beyond_then (beyond_wider g.lights c.write_tidied-l.ensures.2) (beyond_wider g.self_shadows c.write_tidied-d.ensures.2)) (beyond_wider g.properties c.write_tidied_properties-p.ensures.2))
+    (rest_done t c.write_tidied_properties-p.ensures.0, record { lights_are = c.write_tidied-l.ensures.1; shadows_are = c.write_tidied-d.ensures.1; properties_are = c.write_tidied_properties-p.ensures.1 }, beyond_then (beyond_then (beyond_wider g.lights c.write_tidied-l.ensures.2) (beyond_wider g.self_shadows c.write_tidied-d.ensures.2)) (beyond_wider g.properties c.write_tidied_properties-p.ensures.2))

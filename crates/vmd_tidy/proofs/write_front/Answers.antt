@@ -42,4 +42,4 @@ returns c = let s = c.args.s.now in
     let r = front_rest s x c.requires.2 in
     let q = rest_then (morph_bytes s x ++ camera_bytes s x) r c.write_tidied-b.ensures.0 in
     let t = rest_then (camera_bytes s x) q c.write_tidied-m.ensures.0 in
-    (rest_done t c.write_tidied-c.ensures.0, record { bones-are = c.write_tidied-b.ensures.1; morphs-are = c.write_tidied-m.ensures.1; cameras-are = c.write_tidied-c.ensures.1 }, beyond_then (beyond_then (beyond_wider g.bones c.write_tidied-b.ensures.2) (beyond_wider g.morphs c.write_tidied-m.ensures.2)) (beyond_wider g.cameras c.write_tidied-c.ensures.2))
+    (rest_done t c.write_tidied-c.ensures.0, record { bones_are = c.write_tidied-b.ensures.1; morphs_are = c.write_tidied-m.ensures.1; cameras_are = c.write_tidied-c.ensures.1 }, beyond_then (beyond_then (beyond_wider g.bones c.write_tidied-b.ensures.2) (beyond_wider g.morphs c.write_tidied-m.ensures.2)) (beyond_wider g.cameras c.write_tidied-c.ensures.2))
