@@ -64,6 +64,7 @@ distinct_new l a h = distinct_append l (a ∷ []) ∙ rw (added_new l a h)
 -- ---- members
 
 once_member : (a : List ℕ) (l : List (List ℕ)) → Once a l → Member a l
+once_member a [] x = elim x [ ]
 once_member a (d ∷ l) (here h) = inl refl
 once_member a (d ∷ l) (there q w) = inr (once_member a l w)
 

@@ -3,4 +3,4 @@ use Rattle.vmd_slots.proofs.Laws.{handed}
 use Rattle.vmd_c.proofs.export_size_in.Goals as goal
 
 pub returns : goal.returns
-returns c = handed _ _ c.report_written.ensures c.export_file_size.ensures
+returns c = handed _ _ (c.report_written.ensures.value, c.report_written.ensures.slot_left) c.export_file_size.ensures

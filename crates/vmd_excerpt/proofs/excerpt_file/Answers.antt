@@ -18,4 +18,4 @@ pub returns-in-Refused : goal.returns-in-Refused
 returns-in-Refused c = let whole = saves_nothing _ _ _ (file_refused (manner_of c.args.manner) c.args.first c.args.last c.args.file.now (omega arith) _ (heard scan_answer c.scan_file.ensures c.in-Refused.is)) in record { result_value = whole.0; out_after = whole.1 }
 
 pub returns-in-Scanned : goal.returns-in-Scanned
-returns-in-Scanned c = let whole = same_saved _ (file_scanned (manner_of c.args.manner) c.args.first c.args.last c.args.file.now (omega arith) _ (heard scan_answer c.scan_file.ensures c.in-Scanned.is)) c.excerpt_scanned.ensures in record { result_value = whole.0; out_after = whole.1 }
+returns-in-Scanned c = let whole = same_saved _ (file_scanned (manner_of c.args.manner) c.args.first c.args.last c.args.file.now (omega arith) _ (heard scan_answer c.scan_file.ensures c.in-Scanned.is)) (c.excerpt_scanned.ensures.result_value, c.excerpt_scanned.ensures.out_after) in record { result_value = whole.0; out_after = whole.1 }

@@ -18,10 +18,10 @@ write_excerpt-requires-in-Bytes-counted_size c =
     (c.requires, saves_room (bytes c.args.first c.args.last c.args.s.now (scan_is c.args.x)) refl _ (sym (heard written_answer c.counted_size.ensures c.in-Bytes-counted_size.is)))
 
 pub returns-in-Bytes : goal.returns-in-Bytes
-returns-in-Bytes c = let whole = c.write_excerpt.ensures in record { result_value = whole.0; out_after = whole.1 }
+returns-in-Bytes c = record { result_value = c.write_excerpt.ensures.result_value; out_after = c.write_excerpt.ensures.out_after }
 
 pub returns-in-Refused-counted_size : goal.returns-in-Refused-counted_size
 returns-in-Refused-counted_size c = let whole = saves_over (bytes c.args.first c.args.last c.args.s.now (scan_is c.args.x)) refl _ (sym (heard written_answer c.counted_size.ensures c.in-Refused-counted_size.is)) in record { result_value = whole.0; out_after = whole.1 }
 
 pub returns-in-Bytes-counted_size : goal.returns-in-Bytes-counted_size
-returns-in-Bytes-counted_size c = let whole = c.write_excerpt-in-Bytes-counted_size.ensures in record { result_value = whole.0; out_after = whole.1 }
+returns-in-Bytes-counted_size c = record { result_value = c.write_excerpt-in-Bytes-counted_size.ensures.result_value; out_after = c.write_excerpt-in-Bytes-counted_size.ensures.out_after }

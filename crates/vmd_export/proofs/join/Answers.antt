@@ -14,4 +14,4 @@ pub returns-in-Refused : goal.returns-in-Refused
 returns-in-Refused c = let whole = saves_nothing _ _ _ (join_refused _ _ _ _ (heard both_answer c.scan_both.ensures c.in-Refused.is)) in record { result_value = whole.0; out_after = whole.1 }
 
 pub returns-in-Scanned : goal.returns-in-Scanned
-returns-in-Scanned c = let whole = same_saved _ (join_given _ _ _ _ _ _ (heard both_answer c.scan_both.ensures c.in-Scanned.is) c.joined_model.ensures) c.write_take.ensures in record { result_value = whole.0; out_after = whole.1 }
+returns-in-Scanned c = let whole = same_saved _ (join_given _ _ _ _ _ _ (heard both_answer c.scan_both.ensures c.in-Scanned.is) c.joined_model.ensures) (c.write_take.ensures.result_value, c.write_take.ensures.out_after) in record { result_value = whole.0; out_after = whole.1 }

@@ -7,7 +7,7 @@ use Rattle.vmd_header.proofs.model_part.Goals as goal
 
 pub name_at-requires : goal.name_at-requires
 name_at-requires c =
-    (header_headed _ _ (sym c.read_header.ensures ∙ ap header_answer c.in-Read.is)).name-ends
+    (header_headed _ _ (sym c.read_header.ensures ∙ ap header_answer c.in-Read.is)).name_ends
 
 pub returns-in-Refused : goal.returns-in-Refused
 returns-in-Refused c = no_part _ _ (sym c.read_header.ensures ∙ ap header_answer c.in-Refused.is)

@@ -9,8 +9,8 @@ returns-in-NoEntry c = rw c.in-NoEntry.is c.write_text.ensures
 
 pub returns-in-TooLarge : goal.returns-in-TooLarge
 unfolding reason text
-returns-in-TooLarge c = rw c.in-TooLarge.is c.write_text-2.ensures
+returns-in-TooLarge c = rw c.in-TooLarge.is c.write_text-in-TooLarge.ensures
 
 pub returns-in-NotAbove : goal.returns-in-NotAbove
 unfolding reason text
-returns-in-NotAbove c = rw c.in-NotAbove.is c.write_text-3.ensures
+returns-in-NotAbove c = rw c.in-NotAbove.is c.write_text-in-NotAbove.ensures

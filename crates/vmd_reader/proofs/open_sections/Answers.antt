@@ -14,7 +14,5 @@ write_frame_places-requires c =
     (omega (arith, c.places_needed.ensures), inside_reaches _ _ c.requires)
 
 pub returns : goal.returns
-returns c = let whole = (
-      opens _ _ _ c.places_needed.ensures _ _ c.if-scratch-places_needed.false c.frames_of-frames.ensures,
-      fills _ _ _ c.places_needed.ensures _ _ c.if-scratch-places_needed.false c.write_frame_places.ensures,
-    ) in record { result_value = whole.0; scratch_left = whole.1 }
+returns c =
+    record { result_value = opens _ _ _ c.places_needed.ensures _ _ c.if-scratch-places_needed.false c.frames_of-frames.ensures; scratch_left = fills _ _ _ c.places_needed.ensures _ _ c.if-scratch-places_needed.false c.write_frame_places.ensures }

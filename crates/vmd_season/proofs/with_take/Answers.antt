@@ -18,7 +18,7 @@ pub with_count-lights-requires : goal.with_count-lights-requires
 with_count-lights-requires c = (fits_says _ _ c.requires).lights
 
 pub with_count-self_shadows-requires : goal.with_count-self_shadows-requires
-with_count-self_shadows-requires c = (fits_says _ _ c.requires).self-shadows
+with_count-self_shadows-requires c = (fits_says _ _ c.requires).self_shadows
 
 pub with_count-properties-requires : goal.with_count-properties-requires
 with_count-properties-requires c = (fits_says _ _ c.requires).properties
@@ -31,12 +31,12 @@ overflow_add-result c =
 pub overflow_add-result-2 : goal.overflow_add-result-2
 unfolding largest_figure
 overflow_add-result-2 c =
-    omega (arith, (fits_says _ _ c.requires).bone-names)
+    omega (arith, (fits_says _ _ c.requires).bone_names)
 
 pub overflow_add-result-3 : goal.overflow_add-result-3
 unfolding largest_figure
 overflow_add-result-3 c =
-    omega (arith, (fits_says _ _ c.requires).morph-names)
+    omega (arith, (fits_says _ _ c.requires).morph_names)
 
 pub overflow_add-result-4 : goal.overflow_add-result-4
 unfolding largest_figure

@@ -7,19 +7,19 @@ use Rattle.vmd_split.proofs.write_record_parts.Goals as goal
 
 pub write_records-requires : goal.write_records-requires
 write_records-requires c =
-    (omega (arith, c.requires.0.inside.cameras.ends), rows_room camera_sized _ _ (record_rooms c.requires.1).cameras-fit)
+    (omega (arith, c.requires.0.inside.cameras.ends), rows_room camera_sized _ _ (record_rooms c.requires.1).cameras_fit)
 
 pub write_records-requires-2 : goal.write_records-requires-2
 write_records-requires-2 c =
-    (omega (arith, c.requires.0.inside.lights.ends), rows_room light_sized _ _ (record_rooms c.requires.1).lights-fit)
+    (omega (arith, c.requires.0.inside.lights.ends), rows_room light_sized _ _ (record_rooms c.requires.1).lights_fit)
 
 pub write_records-requires-3 : goal.write_records-requires-3
 write_records-requires-3 c =
-    (omega (arith, c.requires.0.inside.self_shadows.ends), rows_room self_shadow_sized _ _ (record_rooms c.requires.1).self-shadows-fit)
+    (omega (arith, c.requires.0.inside.self_shadows.ends), rows_room self_shadow_sized _ _ (record_rooms c.requires.1).self_shadows_fit)
 
 pub write_properties-requires : goal.write_properties-requires
 write_properties-requires c =
-    (inside_reaches _ _ c.requires.0.inside, frames_room c.requires.0 (record_rooms c.requires.1).properties-fit)
+    (inside_reaches _ _ c.requires.0.inside, frames_room c.requires.0 (record_rooms c.requires.1).properties_fit)
 
 pub shape_of-camera_frames : goal.shape_of-camera_frames
 shape_of-camera_frames c = c.write_records.auto.out

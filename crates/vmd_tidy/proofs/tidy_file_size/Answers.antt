@@ -18,4 +18,4 @@ unfolding map_answer cleared
 returns-in-Refused c = let whole = rw (read_refused (manner_of c.args.manner) c.args.file.now (length c.args.scratch.now) longest _ (heard scan_answer c.scan_file.ensures c.in-Refused.is)) (refl, refl) in record { result_value = whole.0; scratch_left = whole.1 }
 
 pub returns-in-Scanned : goal.returns-in-Scanned
-returns-in-Scanned c = let whole = rw (read_scanned (manner_of c.args.manner) c.args.file.now (length c.args.scratch.now) longest _ (heard scan_answer c.scan_file.ensures c.in-Scanned.is)) c.measure_scanned.ensures in record { result_value = whole.0; scratch_left = whole.1 }
+returns-in-Scanned c = let whole = rw (read_scanned (manner_of c.args.manner) c.args.file.now (length c.args.scratch.now) longest _ (heard scan_answer c.scan_file.ensures c.in-Scanned.is)) (c.measure_scanned.ensures.result_value, c.measure_scanned.ensures.scratch_left) in record { result_value = whole.0; scratch_left = whole.1 }
