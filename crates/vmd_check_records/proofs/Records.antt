@@ -2,7 +2,7 @@
 use Prim.Native.Nat.{ℕ, zero, suc, ◌+◌, ◌-◌, ◌*◌, ◌/◌, ◌%◌, ◌≤◌, ◌<◌}
 use mathlib.Core.Path.{◌≡◌, refl, ap, ap₂, sym, ◌∙◌}
 use mathlib.Core.Bool.{Bool, true, false, ◌&&◌}
-use mathlib.Core.List.{List}
+use mathlib.Core.List.{List, ◌∷◌}
 use native.Mathlib.Nat.{div-mul-le_self, add-zero, add-sub_cancel_left}
 use native.Mathlib.Omega.{arith}
 use borrow.Author.Tests.{le-leb, lt-leb, eqb-true, eq-eqb, ne_eqb}
@@ -94,6 +94,10 @@ pub records_are : {A : Type 0} {K : Layout A} {w : ℕ} (f : A → Check) (s : L
 unfolding records_of
 records_are f s k = rw k.size
 
+table_more : {A : Type 0} (K : Layout A) (n : ℕ) (s : List ℕ) → table K (suc n) s ≡ K.decode s ∷ table K n (drop K.size s)
+unfolding table
+table_more K n s = refl
+
 module _ {A : Type 0} {K : Layout A} {w : ℕ} {f : A → Check} {s : List ℕ} where
   -- a whole slice of records
   pub records_start : Checking K w f s 0 (length s / w) 0 (length s / w)
@@ -106,10 +110,12 @@ module _ {A : Type 0} {K : Layout A} {w : ℕ} {f : A → Check} {s : List ℕ} 
     module _ {at left : ℕ} (k : Sized K w) (g : Checking K w f s from n at left) where
       checking_turns : 0 < left
           → each f (table K left (drop at s)) ≡ (f (K.decode (drop at s)) next each f (table K (left - 1) (drop (at + w) s)))
-      unfolding table each
+      unfolding each
       checking_turns h =
           let d : left ≡ suc (left - 1) = omega arith in
-          ap (λ i. each f (table K i (drop at s))) d ∙ rw (k.size, drop-drop)
+          ap (λ i. each f (table K i (drop at s))) d
+          ∙ ap (each f) (table_more K (left - 1) (drop at s))
+          ∙ ap (λ r. f (K.decode (drop at s)) next each f (table K (left - 1) r)) (ap (λ i. drop i (drop at s)) k.size ∙ drop-drop w at s)
 
       pub checking_lies : 0 < left → at + w ≤ length s
       checking_lies h = omega (arith, g.lie, less_one left w h)

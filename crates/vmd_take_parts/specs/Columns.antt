@@ -161,7 +161,7 @@ module _ {A : Type 0} {C : Codec A} {Good : A → Type 0} (c : CodecLaws C Good)
   until_back zero (a ∷ l) k h = absurd (omega arith)
   until_back (suc n) [] k h = refl
   until_back (suc n) (a ∷ l) k h =
-      at_end_some _ (C.write a ++ write_all C.write l) (simp length-append (omega (arith, c.wide a)))
+      at_end_some (λ t. bind (C.read t) (λ b u. bind (until_end C.read n u) (λ m v. got (b ∷ m) v))) (C.write a ++ write_all C.write l) (simp length-append (omega (arith, c.wide a)))
       ∙ rw (c.back a (write_all C.write l) h.0, until_back n l (omega arith) h.1)
 
   pub values_back : (l : List A) → All Good l

@@ -9,7 +9,7 @@ use Rattle.vmd_frames.proofs.Laws.{reaches_next, frame_end_next, frame_end_done}
 use Rattle.vmd_frames.proofs.frame_end.Goals as goal
 
 -- the frame of a turn lies in the file
-inside : (c : goal.In-loop-i invariant-loop decreases-loop)
+inside : (c : goal.In-loop-i)
     → let s = c.args.file.now in
     let l = c.loop-i in
     (next_frame s l.at ≤ length s) × Reaches s (c.args.n - (l.i + 1)) (next_frame s l.at)

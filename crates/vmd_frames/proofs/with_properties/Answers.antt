@@ -10,7 +10,7 @@ use Rattle.vmd_frames.proofs.Frames.{seen_turn, seen_done}
 use Rattle.vmd_frames.proofs.with_properties.Goals as goal
 
 -- the frame of a turn lies in the file
-inside : (c : goal.In-loop-i invariant-loop decreases-loop)
+inside : (c : goal.In-loop-i)
     → let a = c.args in
     let l = c.loop-i in
     (next_frame a.file.now l.at ≤ length a.file.now) × Reaches a.file.now (a.section.count - (l.i + 1)) (next_frame a.file.now l.at)

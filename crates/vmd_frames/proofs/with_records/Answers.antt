@@ -8,7 +8,7 @@ use Rattle.vmd_frames.proofs.Frames.{frame_inside, seen_turn, seen_done}
 use Rattle.vmd_frames.proofs.with_records.Goals as goal
 
 -- the record of a turn lies in the file, and what is left after it
-inside : (c : goal.In-loop-i invariant-loop decreases-loop)
+inside : (c : goal.In-loop-i)
     → let a = c.args in
     c.loop-i.at + c.size-size.result + (a.section.count - (c.loop-i.i + 1)) * c.size-size.result ≤ length a.file.now
 inside c =

@@ -8,7 +8,7 @@ use Rattle.vmd_frames.proofs.Laws.{reaches_more, places_next, places_done}
 use Rattle.vmd_frames.proofs.write_frame_places.Goals as goal
 
 -- the frames that a turn walks over, and those that are left after it
-inside : (c : goal.In-loop-j invariant-loop decreases-loop)
+inside : (c : goal.In-loop-j)
     → let s = c.args.file.now in
     let l = c.loop-j in
     Reaches s (min l.left 16) l.at × Reaches s (l.left - min l.left 16) (frame_end s (min l.left 16) l.at)

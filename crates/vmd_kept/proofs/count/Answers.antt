@@ -24,13 +24,13 @@ slice_bounds-tally-end c =
 
 pub slice_bounds-tally-end-in-loop-order : goal.slice_bounds-tally-end-in-loop-order
 slice_bounds-tally-end-in-loop-order c =
-    sym (length-take-le _ c.pass-held.new.0 (omega (arith, c.requires.0, c.loop-order.invariant.0, c.pass-held.ensures.0, c.pass-held.auto.a)))
+    sym (length-take-le _ c.pass-held.new.a (omega (arith, c.requires.0, c.loop-order.invariant.0, c.pass-held.ensures.0, c.pass-held.auto.a)))
 
 pub tally-found-requires : goal.tally-found-requires
 tally-found-requires c =
     let r = c.requires in
     let e = c.pass-held.ensures in
-    (omega (arith, length-take-le c.pass-held.result.m c.pass-held.new.0 (omega (arith, r.0, c.loop-order.invariant.0, e.0, c.pass-held.auto.a)), e.0), e.1.rising, r.3)
+    (omega (arith, length-take-le c.pass-held.result.m c.pass-held.new.a (omega (arith, r.0, c.loop-order.invariant.0, e.0, c.pass-held.auto.a)), e.0), e.1.rising, r.3)
 
 pub overflow_add-records : goal.overflow_add-records
 overflow_add-records c =
@@ -50,7 +50,7 @@ overflow_add-ik_states c =
 
 pub shape_of-a-then-ceil-eq0 : goal.shape_of-a-then-ceil-eq0
 shape_of-a-then-ceil-eq0 c =
-    length_front c.pass-held.new.0 c.tally-found.new.0 c.pass-held.result.m c.tally-found.auto.a ∙ c.pass-held.auto.a ∙ c.loop-order.invariant.0
+    length_front c.pass-held.new.a c.tally-found.new.a c.pass-held.result.m c.tally-found.auto.a ∙ c.pass-held.auto.a ∙ c.loop-order.invariant.0
 
 pub returns-then-ceil-eq0 : goal.returns-then-ceil-eq0
 returns-then-ceil-eq0 c =
@@ -68,6 +68,6 @@ pub loop-order-preserved : goal.loop-order-preserved
 loop-order-preserved c =
     let a = c.args in
     let s = a.s.now in (
-      length_front c.pass-held.new.0 c.tally-found.new.0 c.pass-held.result.m c.tally-found.auto.a ∙ c.pass-held.auto.a ∙ c.loop-order.invariant.0,
+      length_front c.pass-held.new.a c.tally-found.new.a c.pass-held.result.m c.tally-found.auto.a ∙ c.pass-held.auto.a ∙ c.loop-order.invariant.0,
       counted_turn (key a.order s) (states_there s) c.pass-held.ensures.1 c.loop-order.invariant.1 c.tally-found.ensures.0 c.tally-found.ensures.1 c.if-ceil-eq0.false,
     )

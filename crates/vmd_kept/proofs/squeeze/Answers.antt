@@ -18,7 +18,7 @@ cut-held-requires c =
     let a = c.args in
     let s = a.s.now in
     let e = c.tidy_places-k.ensures in
-    let g : c.tidy_places-k.result ≤ length c.tidy_places-k.new.0 = omega (arith, e.1, e.2) in
+    let g : c.tidy_places-k.result ≤ length c.tidy_places-k.new.a = omega (arith, e.1, e.2) in
     (g, cut_small (key a.order s) (length s) _ a.a.now _ (omega arith) g e.0 c.requires.1.before)
 
 pub slice_bounds-sort_places-end : goal.slice_bounds-sort_places-end
@@ -30,7 +30,7 @@ pub slice_bounds-sort_places-end-2 : goal.slice_bounds-sort_places-end-2
 slice_bounds-sort_places-end-2 c =
     let t = c.tidy_places-k in
     let e = t.ensures in
-    sym (length-take-le _ t.new.0 (omega (arith, (cut_few c.cut-held.ensures).0, e.1, e.2)))
+    sym (length-take-le _ t.new.a (omega (arith, (cut_few c.cut-held.ensures).0, e.1, e.2)))
 
 pub returns : goal.returns
 returns c =
@@ -40,6 +40,6 @@ returns c =
     let o = c.sort_places in
     let r = c.cut-held.ensures in (
       (cut_few r).1,
-      λ floor p l w. squeezed (key a.order s) s floor p a.ceil _ _ _ a.a.now c.tidy_places-k.new.0 o.new.0 _ l
+      λ floor p l w. squeezed (key a.order s) s floor p a.ceil _ _ _ a.a.now c.tidy_places-k.new.a o.new.a _ l
           (omega (arith, c.requires.0)) (omega (arith, e.1, e.2)) e.0 r o.ensures.0 o.ensures.1 w,
     )

@@ -15,4 +15,4 @@ pub returns : goal.returns
 returns c =
     let a = c.args in
     let e = c.tidy_places-k.ensures in
-    tallied (states_there a.s.now) _ _ c.tidy_places-k.new.0 _ e.0 (omega (arith, e.1, e.2)) c.weigh.ensures
+    tallied (states_there a.s.now) _ _ c.tidy_places-k.new.a _ e.0 (omega (arith, e.1, e.2)) c.weigh.ensures

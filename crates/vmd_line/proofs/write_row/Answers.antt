@@ -12,7 +12,7 @@ pub loop-i-init : goal.loop-i-init
 unfolding spaced
 loop-i-init c =
     let w = c.write_decimal-at in
-    let l : length w.new.0 ≡ 256 = omega (arith, w.auto.out) in
+    let l : length w.new.out ≡ 256 = omega (arith, w.auto.out) in
     (omega arith, omega arith, omega (arith, w.ensures.upper_bound), l, l, rw part_zero (wrote_none _ _))
 
 pub write_decimal-at-requires-in-loop-i : goal.write_decimal-at-requires-in-loop-i
@@ -24,7 +24,7 @@ loop-i-preserved c =
     let inv = c.loop-i.invariant in
     let n : length c.args.numbers.now ≡ 10 = omega arith in
     let e : w.result + 1 ≤ 21 * (c.loop-i.i + 1) = omega (arith, w.ensures.upper_bound) in
-    let l : length w.new.0 ≡ 256 = w.auto.out ∙ simp length-set inv.3 in (
+    let l : length w.new.out ≡ 256 = w.auto.out ∙ simp length-set inv.3 in (
       omega arith,
       omega arith,
       e,

@@ -18,5 +18,5 @@ pub returns : goal.returns
 returns c = let a = c.args in
     let t = c.tidy_records.ensures in
     let n = c.tidy_records.result in
-    let l = c.tidy_records.new.0 in
+    let l = c.tidy_records.new.a in
     (rows_count a.kind a.s.now (extent_is a.x) n l t.0 (front_count n l (omega (arith, t.1, t.2.long, c.requires.1))), t.2)

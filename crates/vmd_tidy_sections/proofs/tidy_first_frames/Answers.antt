@@ -19,4 +19,4 @@ returns c = let a = c.args in
     let h = c.requires.0 in
     let t = c.tidy_frames.ensures in
     let n = front_count a.n a.a.now h in
-    (front_take a.n a.a.now h c.tidy_frames.new.0 t.2 _ t.1 ∙ t.0 ∙ ap (λ (z : ℕ). lasts (there a.s.now) (places_by (step a.s.now a.size) z a.at)) n, omega (arith, t.1), front_beyond a.n a.a.now h c.tidy_frames.new.0 t.2)
+    (front_take a.n a.a.now h c.tidy_frames.new.a t.2 _ t.1 ∙ t.0 ∙ ap (λ (z : ℕ). lasts (there a.s.now) (places_by (step a.s.now a.size) z a.at)) n, omega (arith, t.1), front_beyond a.n a.a.now h c.tidy_frames.new.a t.2)

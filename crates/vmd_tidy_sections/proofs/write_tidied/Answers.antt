@@ -23,7 +23,7 @@ pub write_count-p-requires : goal.write_count-p-requires
 write_count-p-requires c = let a = c.args in
     let t = c.tidy_records-n.ensures in
     let n = c.tidy_records-n.result in
-    let l = c.tidy_records-n.new.0 in
+    let l = c.tidy_records-n.new.a in
     let cn = front_count n l (omega (arith, t.1, t.2.long, c.requires.1)) in
     rest_room (write_all (placed (layout a.kind) a.s.now) (take n l)) (rest_as (rows_bytes a.kind a.s.now (extent_is a.x) n l t.0 cn) c.requires.2)
 
@@ -31,13 +31,13 @@ pub slice_bounds-write_places-end : goal.slice_bounds-write_places-end
 slice_bounds-write_places-end c = omega (arith, c.tidy_records-n.ensures.1, c.tidy_records-n.ensures.2.long, c.requires.1)
 
 pub slice_bounds-write_places-end-2 : goal.slice_bounds-write_places-end-2
-slice_bounds-write_places-end-2 c = sym (front_count c.tidy_records-n.result c.tidy_records-n.new.0 (omega (arith, c.tidy_records-n.ensures.1, c.tidy_records-n.ensures.2.long, c.requires.1)))
+slice_bounds-write_places-end-2 c = sym (front_count c.tidy_records-n.result c.tidy_records-n.new.a (omega (arith, c.tidy_records-n.ensures.1, c.tidy_records-n.ensures.2.long, c.requires.1)))
 
 pub write_places-end-requires : goal.write_places-end-requires
 write_places-end-requires c = let a = c.args in
     let t = c.tidy_records-n.ensures in
     let n = c.tidy_records-n.result in
-    let l = c.tidy_records-n.new.0 in
+    let l = c.tidy_records-n.new.a in
     let cn = front_count n l (omega (arith, t.1, t.2.long, c.requires.1)) in
     let k = a.kind in
     let v = write_all (placed (layout k) a.s.now) (take n l) in
@@ -54,7 +54,7 @@ pub returns : goal.returns
 returns c = let a = c.args in
     let t = c.tidy_records-n.ensures in
     let n = c.tidy_records-n.result in
-    let l = c.tidy_records-n.new.0 in
+    let l = c.tidy_records-n.new.a in
     let cn = front_count n l (omega (arith, t.1, t.2.long, c.requires.1)) in
     let k = a.kind in
     let v = write_all (placed (layout k) a.s.now) (take n l) in

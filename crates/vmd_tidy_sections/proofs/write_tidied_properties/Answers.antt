@@ -21,7 +21,7 @@ pub write_count-p-requires : goal.write_count-p-requires
 write_count-p-requires c = let a = c.args in
     let t = c.tidy_properties-n.ensures in
     let n = c.tidy_properties-n.result in
-    let l = c.tidy_properties-n.new.0 in
+    let l = c.tidy_properties-n.new.a in
     let cn = front_count n l (omega (arith, t.1, t.2.long, c.requires.1)) in
     rest_room (write_all (λ p. property.write (property_in a.s.now p)) (take n l)) (rest_as (frames_bytes a.s.now (extent_is a.x) n l t.0 cn) c.requires.2)
 
@@ -29,13 +29,13 @@ pub slice_bounds-write_frames-end : goal.slice_bounds-write_frames-end
 slice_bounds-write_frames-end c = omega (arith, c.tidy_properties-n.ensures.1, c.tidy_properties-n.ensures.2.long, c.requires.1)
 
 pub slice_bounds-write_frames-end-2 : goal.slice_bounds-write_frames-end-2
-slice_bounds-write_frames-end-2 c = sym (front_count c.tidy_properties-n.result c.tidy_properties-n.new.0 (omega (arith, c.tidy_properties-n.ensures.1, c.tidy_properties-n.ensures.2.long, c.requires.1)))
+slice_bounds-write_frames-end-2 c = sym (front_count c.tidy_properties-n.result c.tidy_properties-n.new.a (omega (arith, c.tidy_properties-n.ensures.1, c.tidy_properties-n.ensures.2.long, c.requires.1)))
 
 pub write_frames-end-requires : goal.write_frames-end-requires
 write_frames-end-requires c = let a = c.args in
     let t = c.tidy_properties-n.ensures in
     let n = c.tidy_properties-n.result in
-    let l = c.tidy_properties-n.new.0 in
+    let l = c.tidy_properties-n.new.a in
     let cn = front_count n l (omega (arith, t.1, t.2.long, c.requires.1)) in
     let v = write_all (λ p. property.write (property_in a.s.now p)) (take n l) in
     let r = rest_then v (rest_as (frames_bytes a.s.now (extent_is a.x) n l t.0 cn) c.requires.2) c.write_count-p.ensures in
@@ -51,7 +51,7 @@ pub returns : goal.returns
 returns c = let a = c.args in
     let t = c.tidy_properties-n.ensures in
     let n = c.tidy_properties-n.result in
-    let l = c.tidy_properties-n.new.0 in
+    let l = c.tidy_properties-n.new.a in
     let cn = front_count n l (omega (arith, t.1, t.2.long, c.requires.1)) in
     let v = write_all (λ p. property.write (property_in a.s.now p)) (take n l) in
     let r = rest_then v (rest_as (frames_bytes a.s.now (extent_is a.x) n l t.0 cn) c.requires.2) c.write_count-p.ensures in
