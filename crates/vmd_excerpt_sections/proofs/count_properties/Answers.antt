@@ -42,7 +42,7 @@ loop-left-preserved c = let h = reaches_first c.args.s.now c.loop-left.left c.lo
     let m = number_most c.is_between-on.result c.read_u32_le-here.result in (
       rw c.next_property_frame-p.ensures h.1,
       omega (arith, c.loop-left.invariant.1),
-      rw (c.next_property_frame-p.ensures, c.next_if-kept.ensures) (count_turn property_framed c.args.first c.args.last c.loop-left.auto _ c.is_between-on.result f o c.loop-left.invariant.2),
+      rw (c.next_property_frame-p.ensures, c.next_if-kept.ensures) (count_turn property_framed c.args.first c.args.last c.loop-left.kept _ c.is_between-on.result f o c.loop-left.invariant.2),
       rw (c.next_property_frame-p.ensures, c.states_if-states.ensures) (states_turn c.args.first c.args.last c.loop-left.states _ c.read_u32_le-here.result c.is_between-on.result f o
           (c.read_u32_le-here.ensures ∙ sym (table_length ik_state (u32 (drop (c.loop-left.p + 5) c.args.s.now)) (drop (c.loop-left.p + 9) c.args.s.now))) c.loop-left.invariant.3),
       omega (arith, c.loop-left.invariant.4, c.states_if-states.ensures, m),
@@ -54,4 +54,4 @@ overflow_cast-result c = omega (arith, c.loop-left.invariant.2, frames_few c.arg
 pub returns : goal.returns
 unfolding kept_frames
 returns c = let n = frames_none c.args.s.now c.loop-left.left c.loop-left.p (omega arith) in
-    (count_end property_framed c.args.first c.args.last c.loop-left.auto _ n c.loop-left.invariant.2, states_end c.args.first c.args.last c.loop-left.states _ n c.loop-left.invariant.3)
+    (count_end property_framed c.args.first c.args.last c.loop-left.kept _ n c.loop-left.invariant.2, states_end c.args.first c.args.last c.loop-left.states _ n c.loop-left.invariant.3)

@@ -30,7 +30,7 @@ loop-left-preserved c = let e = less_one c.loop-left.left (size_of c.args.kind) 
       z,
       rw z (omega (arith, c.loop-left.invariant.1)),
       omega (arith, c.loop-left.invariant.2),
-      rw (z, c.next_if-kept.ensures) (count_turn (framed c.args.kind) c.args.first c.args.last c.loop-left.auto _ c.is_between-on.result
+      rw (z, c.next_if-kept.ensures) (count_turn (framed c.args.kind) c.args.first c.args.last c.loop-left.kept _ c.is_between-on.result
           (table_first (kind_sized c.args.kind) c.loop-left.left c.loop-left.p c.args.s.now (omega arith)) (c.is_between-on.ensures ∙ ap (between c.args.first c.args.last) c.frame_at.ensures) c.loop-left.invariant.3),
     )
 
@@ -39,4 +39,4 @@ overflow_cast-result c = omega (arith, c.loop-left.invariant.3, rows_few c.args.
 
 pub returns : goal.returns
 unfolding kept_rows
-returns c = count_end (framed c.args.kind) c.args.first c.args.last c.loop-left.auto _ (table_none (layout c.args.kind) c.loop-left.left (drop c.loop-left.p c.args.s.now) (omega arith)) c.loop-left.invariant.3
+returns c = count_end (framed c.args.kind) c.args.first c.args.last c.loop-left.kept _ (table_none (layout c.args.kind) c.loop-left.left (drop c.loop-left.p c.args.s.now) (omega arith)) c.loop-left.invariant.3

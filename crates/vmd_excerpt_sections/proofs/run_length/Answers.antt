@@ -41,6 +41,7 @@ loop-k-preserved c = let i = c.loop-k.invariant in (
   rw (i.0, i.3) (omega arith),
   run_turn c.args.kind c.args.s.now c.args.at c.args.first c.args.last c.args.on c.loop-k.k c.loop-k.p i.3
       (alike c.is_between.result c.args.on c.if-is_between-on.false ∙ c.is_between.ensures ∙ ap (between c.args.first c.args.last) c.frame_at.ensures) i.4,
+)
 
 pub returns : goal.returns
 returns c = let i = c.loop-k.invariant in (i.1, i.2, i.4)

@@ -9,7 +9,7 @@ use Rattle.vmd_export.proofs.export.Goals as goal
 pub write_take-requires : goal.write_take-requires
 unfolding no_scan
 write_take-requires c =
-    let h : Sums (scan_is c.in-Scanned.a) no_scan = omega (arith, c.known_told-in-Scanned-1.given) in
+    let h : Sums (scan_is c.in-Scanned.a) no_scan = omega arith in
     export_both _ _ _ _ _ (heard scan_answer c.scan_fitting.ensures c.in-Scanned.is) c.no_sections.ensures h
 
 pub returns-in-Refused : goal.returns-in-Refused

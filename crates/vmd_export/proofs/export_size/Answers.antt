@@ -12,7 +12,7 @@ use Rattle.vmd_export.proofs.export_size.Goals as goal
 pub size_of_both-requires : goal.size_of_both-requires
 unfolding no_scan
 size_of_both-requires c =
-    let h : Sums (scan_is c.in-Scanned.a) no_scan = omega (arith, c.known_told-in-Scanned-1.given) in
+    let h : Sums (scan_is c.in-Scanned.a) no_scan = omega arith in
     (export_both _ _ _ _ _ (heard scan_answer c.scan_fitting.ensures c.in-Scanned.is) c.no_sections.ensures h).sums
 
 pub returns-in-Refused : goal.returns-in-Refused
@@ -22,7 +22,7 @@ returns-in-Refused c =
 pub returns-in-Scanned : goal.returns-in-Scanned
 unfolding no_scan
 returns-in-Scanned c =
-    let h : Sums (scan_is c.in-Scanned.a) no_scan = omega (arith, c.known_told-in-Scanned-1.given) in
+    let h : Sums (scan_is c.in-Scanned.a) no_scan = omega arith in
     c.size_of_both.ensures
     ∙ both_size (export_both _ _ _ _ _ (heard scan_answer c.scan_fitting.ensures c.in-Scanned.is) c.no_sections.ensures h) _ _ _
     ∙ ap (λ w. map_answer length (fitted 18446744073709551615 w)) (export_given _ _ _ _ _ (heard scan_answer c.scan_fitting.ensures c.in-Scanned.is) c.no_sections.ensures _ refl)

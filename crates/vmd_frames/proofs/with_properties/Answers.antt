@@ -1,42 +1,28 @@
-use Prim.Native.Nat.{◌+◌, ◌-◌, ◌≤◌}
 use mathlib.Core.Path.{refl}
 use native.Mathlib.Nat.{add-zero, sub-zero}
 use native.Mathlib.Omega.{arith}
-use lib.ListN.{length}
 use Rattle.vmd_format.specs.Fetch.{next_frame}
-use Rattle.vmd_laws.specs.Places.{Reaches}
 use Rattle.vmd_frames.proofs.Laws.{reaches_next}
 use Rattle.vmd_frames.proofs.Frames.{seen_turn, seen_done}
 use Rattle.vmd_frames.proofs.with_properties.Goals as goal
-
--- the frame of a turn lies in the file
-inside : (c : goal.In-loop-i)
-    → let a = c.args in
-    let l = c.loop-i in
-    (next_frame a.file.now l.at ≤ length a.file.now) × Reaches a.file.now (a.section.count - (l.i + 1)) (next_frame a.file.now l.at)
-inside c =
-    let a = c.args in
-    let l = c.loop-i in
-    reaches_next a.file.now a.section.count l.i l.at (omega arith) l.invariant.1
 
 pub loop-i-init : goal.loop-i-init
 loop-i-init c = (omega arith, rw sub-zero c.requires, rw sub-zero refl)
 
 pub read_u32_le-requires : goal.read_u32_le-requires
 unfolding next_frame
-read_u32_le-requires c = omega (arith, (inside c).0)
+read_u32_le-requires c = omega (arith, (reaches_next c.args.file.now c.args.section.count c.loop-i.i c.loop-i.at (omega arith) c.loop-i.invariant.1).0)
 
 pub next_property_frame-at-requires : goal.next_property_frame-at-requires
-next_property_frame-at-requires c = (inside c.before.before).0
+next_property_frame-at-requires c = (reaches_next c.args.file.now c.args.section.count c.loop-i.i c.loop-i.at (omega arith) c.loop-i.invariant.1).0
 
 pub loop-i-preserved : goal.loop-i-preserved
 loop-i-preserved c =
-    let r = w.before in
     let a = c.args in
     let e = seen_turn _ _ a.file.now a.section.count c.loop-i.i c.loop-i.at c.loop-i.frames _ (omega arith) c.loop-i.invariant.2 in
     rw (c.next_property_frame-at.ensures, c.with_frame-frames.ensures, c.read_u32_le.ensures) (
       omega arith,
-      (inside r.before).1,
+      (reaches_next c.args.file.now c.args.section.count c.loop-i.i c.loop-i.at (omega arith) c.loop-i.invariant.1).1,
       rw add-zero at e,
     )
 

@@ -1,6 +1,6 @@
 -- `vmd_frames::write_frame_places` meets its contract. The invariant: what is written, the places that are left and the rest of
 -- the scratch are what is to stand there in the end. Assumes nothing.
-use Prim.Native.Nat.{◌+◌, ◌*◌, ◌-◌, ◌≤◌}
+use Prim.Native.Nat.{◌*◌, ◌-◌, ◌≤◌}
 use mathlib.Core.Path.{◌≡◌}
 use mathlib.Core.List.{◌++◌}
 use lib.ListN.{length, take, drop}
