@@ -1,6 +1,5 @@
 use mathlib.Core.Bool.{Bool, true, false, not, beq}
 use mathlib.Core.Path.{◌≡◌, refl, sym, ap, ◌∙◌}
-use Prim.Native.Nat.{◌-◌}
 use native.Mathlib.Omega.{arith}
 use lib.ListN.{length}
 use Rattle.vmd_records.specs.Kinds.{size_of}
@@ -15,8 +14,6 @@ alike true true e = refl
 alike true false e = sym e
 alike false true e = e
 alike false false e = refl
-
-)
 
 pub overflow_add-p : goal.overflow_add-p
 overflow_add-p c = omega (arith, c.size-size.ensures, lies_on (size_of c.args.kind) c.args.at 0 c.args.n (length c.args.s.now) c.requires.0 c.requires.1)

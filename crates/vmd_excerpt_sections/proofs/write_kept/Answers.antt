@@ -1,4 +1,3 @@
-use mathlib.Core.Logic.{⊎_elim}
 use mathlib.Core.Path.{ap, ◌∙◌}
 use Prim.Native.Nat.{◌+◌, ◌-◌, ◌*◌, ◌≤◌}
 use native.Mathlib.Omega.{arith}
@@ -12,6 +11,7 @@ use Rattle.vmd_format.specs.Characters.{between}
 use Rattle.vmd_excerpt_sections.specs.RowLaws.{rows_few, fewer, table_split, not_below, keeping_start, keeping_room, keeping_more, keeping_kept, keeping_dropped, keeping_end}
 use Rattle.vmd_excerpt_sections.specs.Rows.{framed, rows, kept_rows}
 use Rattle.vmd_excerpt_sections.proofs.write_kept.Goals as goal
+use Rattle.vmd_excerpt_sections.proofs.write_kept.Goals.{then-on, else-on}
 
 pub loop-left-init : goal.loop-left-init
 unfolding kept_rows
@@ -72,9 +72,10 @@ loop-left-preserved c = let k = c.args.kind in
       z,
       rw z (omega (arith, c.loop-left.invariant.1, fewer (size_of k) n c.loop-left.left m)),
       rw z (
-          ⊎_elim (λ y. rw (y.5, y.6, y.7) (keeping_kept (rows k s n c.loop-left.p) others c.loop-left.invariant.2 t (rw y.0.taken at c.run_length-n.ensures.2) n (table_length (layout k) n (drop c.loop-left.p s)) y.2.ensures))
-          (λ y. rw (y.1, y.2, y.3) (keeping_dropped (rows k s n c.loop-left.p) others c.loop-left.invariant.2 t (rw y.0.left at c.run_length-n.ensures.2)))
-          c.if-on.branch),
+          elim c.if-on.branch [
+            then-on w ↦ rw (w.out-is, w.q-is, w.kept-is) (keeping_kept (rows k s n c.loop-left.p) others c.loop-left.invariant.2 t (rw w.if-on.true at c.run_length-n.ensures.2) n (table_length (layout k) n (drop c.loop-left.p s)) w.write_run-q.ensures)
+            | else-on w ↦ rw (w.out-is, w.q-is, w.kept-is) (keeping_dropped (rows k s n c.loop-left.p) others c.loop-left.invariant.2 t (rw w.if-on.false at c.run_length-n.ensures.2))
+          ]),
     )
 
 pub shape_of-out : goal.shape_of-out

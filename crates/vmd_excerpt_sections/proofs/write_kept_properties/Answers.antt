@@ -1,4 +1,3 @@
-use mathlib.Core.Logic.{⊎_elim}
 use mathlib.Core.Path.{ap, sym, ◌∙◌}
 use Prim.Native.Nat.{◌-◌}
 use native.Mathlib.Omega.{arith}
@@ -12,6 +11,7 @@ use Rattle.vmd_excerpt_sections.specs.RowLaws.{one_room, one_more, one_kept, one
 use Rattle.vmd_excerpt_sections.specs.RowLaws.{frames_few, keeping_start, keeping_end}
 use Rattle.vmd_excerpt_sections.specs.Rows.{kept_frames}
 use Rattle.vmd_excerpt_sections.proofs.write_kept_properties.Goals as goal
+use Rattle.vmd_excerpt_sections.proofs.write_kept_properties.Goals.{then-is_between, else-is_between}
 
 pub loop-left-init : goal.loop-left-init
 unfolding kept_frames
@@ -48,9 +48,10 @@ loop-left-preserved c = let s = c.args.s.now in
     let others = frames_in s (c.loop-left.left - 1) (next_frame s c.loop-left.p) in
     rw c.next_property_frame-p.ensures (
       r.1,
-      ⊎_elim (λ t. rw (t.5, t.6, t.7) (one_kept (property_in s c.loop-left.p) others c.loop-left.invariant.1 f (b ∙ t.0.taken) t.2.ensures))
-          (λ t. rw (t.1, t.2, t.3) (one_dropped (property_in s c.loop-left.p) others c.loop-left.invariant.1 f (b ∙ t.0.left)))
-          c.if-is_between.branch,
+      elim c.if-is_between.branch [
+          then-is_between t ↦ rw (t.out-is, t.q-is, t.kept-is) (one_kept (property_in s c.loop-left.p) others c.loop-left.invariant.1 f (b ∙ t.if-is_between.true) t.write_moved_property-q.ensures)
+          | else-is_between t ↦ rw (t.out-is, t.q-is, t.kept-is) (one_dropped (property_in s c.loop-left.p) others c.loop-left.invariant.1 f (b ∙ t.if-is_between.false))
+      ],
     )
 
 pub shape_of-out : goal.shape_of-out

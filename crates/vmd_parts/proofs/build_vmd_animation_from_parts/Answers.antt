@@ -15,7 +15,13 @@ parts_size-requires c =
 pub write_front-to-requires : goal.write_front-to-requires
 write_front-to-requires c =
     let e = (heard check_of c.parts_check.ensures c.in-Passes.is) in
-    let k = checked _ e in let whole = (bones_fit k, (morphs_fit k, (((small _ k).0, (small _ k).1), rest_room _ (built_rest _ e _ (sym (heard written_answer c.parts_size.ensures c.in-Bytes.is)))))) in record { bones_fit = whole.0; morphs_fit = whole.1; bone_name_indices_len_bound = whole.2; room = whole.3 }
+    let k = checked _ e in
+    record {
+      bones_fit = bones_fit k;
+      morphs_fit = morphs_fit k;
+      bone_name_indices_len_bound = ((small _ k).0, (small _ k).1);
+      room = rest_room _ (built_rest _ e _ (sym (heard written_answer c.parts_size.ensures c.in-Bytes.is)));
+    }
 
 pub write_back-end-requires : goal.write_back-end-requires
 write_back-end-requires c =
