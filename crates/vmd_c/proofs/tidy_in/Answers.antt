@@ -6,4 +6,4 @@ use Rattle.vmd_c.proofs.tidy_in.Goals as goal
 pub returns : goal.returns
 returns c = let r = c.report_tidied.ensures in
     let a = c.tidy_file.ensures in
-    (r.0 ∙ ap status a.result_value, r.1 ∙ ap (slot_after _ (λ t. t.bytes)) a.result_value, r.2 ∙ ap (slot_after _ (λ t. count_words t.kept)) a.result_value, r.3 ∙ ap (slot_after _ (λ t. count_words t.dropped)) a.result_value, a.out_after.0, a.out_after.1)
+    (r.0 ∙ ap status a.result_value, r.1 ∙ ap (slot_after _ (λ t. t.bytes)) a.result_value, r.2 ∙ ap (slot_after _ (λ t. count_words t.kept)) a.result_value, r.3 ∙ ap (slot_after _ (λ t. count_words t.dropped)) a.result_value, a.out_after, a.scratch_left)

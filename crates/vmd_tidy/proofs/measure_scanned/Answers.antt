@@ -14,7 +14,8 @@ pub returns-then-scratch-places : goal.returns-then-scratch-places
 unfolding map_answer cleared
 returns-then-scratch-places c = let s = c.args.s.now in
     let x = scan_is c.args.x in
-    let e = fitting_short (take_in s x) (length c.args.scratch.now) longest (omega (arith, largest_is s x c.requires, c.largest_section-places.ensures)) in let whole = rw e (refl, refl) in record { result_value = whole.0; scratch_left = whole.1 }
+    let e = fitting_short (take_in s x) (length c.args.scratch.now) longest (omega (arith, largest_is s x c.requires, c.largest_section-places.ensures)) in
+    record { result_value = rw e refl; scratch_left = rw e refl }
 
 pub tidied_fits-requires : goal.tidied_fits-requires
 tidied_fits-requires c = c.requires
@@ -24,7 +25,8 @@ unfolding map_answer cleared
 returns-then-not-tidied_fits c = let s = c.args.s.now in
     let x = scan_is c.args.x in
     let f = c.if-not-tidied_fits.true in
-    let e = fitting_over (take_in s x) (length c.args.scratch.now) longest (omega (arith, largest_is s x c.requires, c.largest_section-places.ensures)) (rw (← tidied_bytes s x) (sym c.tidied_fits.ensures ∙ f)) in let whole = rw e (refl, refl) in record { result_value = whole.0; scratch_left = whole.1 }
+    let e = fitting_over (take_in s x) (length c.args.scratch.now) longest (omega (arith, largest_is s x c.requires, c.largest_section-places.ensures)) (rw (← tidied_bytes s x) (sym c.tidied_fits.ensures ∙ f)) in
+    record { result_value = rw e refl; scratch_left = rw e refl }
 
 pub measure_file-done-requires : goal.measure_file-done-requires
 measure_file-done-requires c = let f = c.if-not-tidied_fits.false in
@@ -39,4 +41,5 @@ returns c = let s = c.args.s.now in
     let x = scan_is c.args.x in
     let f = c.if-not-tidied_fits.false in
     let w = c.measure_file-done.ensures in
-    let e = fitting_given (take_in s x) (length c.args.scratch.now) longest (omega (arith, largest_is s x c.requires, c.largest_section-places.ensures)) (rw (← tidied_bytes s x) (sym c.tidied_fits.ensures ∙ f)) in let whole = rw e (ap given (reported s x c.requires _ _ _ w.0 w.1 w.2), cleared_is _ (take_in s x) _ _ _ (largest_is s x c.requires ∙ sym c.largest_section-places.ensures) (rw (← c.largest_section-places.ensures) at w.3) c.clear_places.ensures) in record { result_value = whole.0; scratch_left = whole.1 }
+    let e = fitting_given (take_in s x) (length c.args.scratch.now) longest (omega (arith, largest_is s x c.requires, c.largest_section-places.ensures)) (rw (← tidied_bytes s x) (sym c.tidied_fits.ensures ∙ f)) in
+    record { result_value = rw e (ap given (reported s x c.requires _ _ _ w.0 w.1 w.2)); scratch_left = rw e (cleared_is _ (take_in s x) _ _ _ (largest_is s x c.requires ∙ sym c.largest_section-places.ensures) (rw (← c.largest_section-places.ensures) at w.3) c.clear_places.ensures) }

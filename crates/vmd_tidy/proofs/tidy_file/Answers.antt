@@ -15,7 +15,7 @@ tidy_scanned-requires c = scan_scanned (manner_of c.args.manner) _ _ (heard scan
 
 pub returns-in-Refused : goal.returns-in-Refused
 unfolding map_answer left cleared
-returns-in-Refused c = let whole = rw (read_refused (manner_of c.args.manner) c.args.file.now (length c.args.scratch.now) (length c.args.out.now) _ (heard scan_answer c.scan_file.ensures c.in-Refused.is)) (refl, (refl, refl)) in record { result_value = whole.0; out_after = whole.1; scratch_left = whole.2 }
+returns-in-Refused c = record { result_value = rw (read_refused (manner_of c.args.manner) c.args.file.now (length c.args.scratch.now) (length c.args.out.now) _ (heard scan_answer c.scan_file.ensures c.in-Refused.is)) refl; out_after = rw (read_refused (manner_of c.args.manner) c.args.file.now (length c.args.scratch.now) (length c.args.out.now) _ (heard scan_answer c.scan_file.ensures c.in-Refused.is)) refl; scratch_left = rw (read_refused (manner_of c.args.manner) c.args.file.now (length c.args.scratch.now) (length c.args.out.now) _ (heard scan_answer c.scan_file.ensures c.in-Refused.is)) refl }
 
 pub returns-in-Scanned : goal.returns-in-Scanned
-returns-in-Scanned c = let whole = rw (read_scanned (manner_of c.args.manner) c.args.file.now (length c.args.scratch.now) (length c.args.out.now) _ (heard scan_answer c.scan_file.ensures c.in-Scanned.is)) (c.tidy_scanned.ensures.result_value, c.tidy_scanned.ensures.out_after, c.tidy_scanned.ensures.scratch_left) in record { result_value = whole.0; out_after = whole.1; scratch_left = whole.2 }
+returns-in-Scanned c = record { result_value = rw (read_scanned (manner_of c.args.manner) c.args.file.now (length c.args.scratch.now) (length c.args.out.now) _ (heard scan_answer c.scan_file.ensures c.in-Scanned.is)) c.tidy_scanned.ensures.result_value; out_after = rw (read_scanned (manner_of c.args.manner) c.args.file.now (length c.args.scratch.now) (length c.args.out.now) _ (heard scan_answer c.scan_file.ensures c.in-Scanned.is)) c.tidy_scanned.ensures.out_after; scratch_left = rw (read_scanned (manner_of c.args.manner) c.args.file.now (length c.args.scratch.now) (length c.args.out.now) _ (heard scan_answer c.scan_file.ensures c.in-Scanned.is)) c.tidy_scanned.ensures.scratch_left }

@@ -15,7 +15,7 @@ measure_scanned-requires c = scan_scanned (manner_of c.args.manner) _ _ (heard s
 
 pub returns-in-Refused : goal.returns-in-Refused
 unfolding map_answer cleared
-returns-in-Refused c = let whole = rw (read_refused (manner_of c.args.manner) c.args.file.now (length c.args.scratch.now) longest _ (heard scan_answer c.scan_file.ensures c.in-Refused.is)) (refl, refl) in record { result_value = whole.0; scratch_left = whole.1 }
+returns-in-Refused c = record { result_value = rw (read_refused (manner_of c.args.manner) c.args.file.now (length c.args.scratch.now) longest _ (heard scan_answer c.scan_file.ensures c.in-Refused.is)) refl; scratch_left = rw (read_refused (manner_of c.args.manner) c.args.file.now (length c.args.scratch.now) longest _ (heard scan_answer c.scan_file.ensures c.in-Refused.is)) refl }
 
 pub returns-in-Scanned : goal.returns-in-Scanned
-returns-in-Scanned c = let whole = rw (read_scanned (manner_of c.args.manner) c.args.file.now (length c.args.scratch.now) longest _ (heard scan_answer c.scan_file.ensures c.in-Scanned.is)) (c.measure_scanned.ensures.result_value, c.measure_scanned.ensures.scratch_left) in record { result_value = whole.0; scratch_left = whole.1 }
+returns-in-Scanned c = record { result_value = rw (read_scanned (manner_of c.args.manner) c.args.file.now (length c.args.scratch.now) longest _ (heard scan_answer c.scan_file.ensures c.in-Scanned.is)) c.measure_scanned.ensures.result_value; scratch_left = rw (read_scanned (manner_of c.args.manner) c.args.file.now (length c.args.scratch.now) longest _ (heard scan_answer c.scan_file.ensures c.in-Scanned.is)) c.measure_scanned.ensures.scratch_left }
