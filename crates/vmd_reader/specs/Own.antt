@@ -113,7 +113,7 @@ gives_steps s at (p ∷ l) (h, rest) = (
     ik_state = λ place. gives_state (h.alone place) ik_fields 0 p (omega arith);
     ik_name = λ place. gives_name (h.alone place) 0 p (omega arith);
   },
-  gives_steps s _ l rest,
+  gives_steps s (at + 9 + 21 * length p.ik_states) l rest,
 )
 
 -- of a file that reads as the take t, with the opening that was given and the scratch that this left

@@ -7,23 +7,18 @@ use Rattle.vmd_base.specs.Meaning.{manner_of}
 use Rattle.vmd_reader.proofs.Laws.{open_refused, open_scanned, scratch_refused, scratch_scanned}
 use Rattle.vmd_reader.proofs.open_file.Goals as goal
 
--- the scan that the answer of `scan_file` says
-scanned : (c : goal.After-scan_file) → let a = c.args in scan_file (manner_of a.manner) a.file.now ≡ scan_answer c.scan_file.result
-scanned c = sym c.scan_file.ensures
-
 pub open_sections-requires : goal.open_sections-requires
-open_sections-requires c =
-    let t = c.before.before in
-    inside_file _ _ _ (scanned t.before.before ∙ ap scan_answer c.in-Scanned.is)
+open_sections-requires c = inside_file _ _ _ (sym c.scan_file.ensures ∙ ap scan_answer c.in-Scanned.is)
 
 pub returns-in-Refused : goal.returns-in-Refused
 returns-in-Refused c =
-    let t = c.before in
-    let e = scanned t.before.before ∙ ap scan_answer c.in-Refused.is in
+    let e = sym c.scan_file.ensures ∙ ap scan_answer c.in-Refused.is in
     record { result_value = open_refused _ _ _ _ e; scratch_left = scratch_refused _ _ _ _ e }
 
 pub returns-in-Scanned : goal.returns-in-Scanned
 returns-in-Scanned c =
-    let t = o.before.before.before in
-    let e = scanned t.before.before ∙ ap scan_answer c.in-Scanned.is in
-    record { result_value = c.open_sections.ensures.result_value ∙ open_scanned _ _ _ _ e; scratch_left = c.open_sections.ensures.scratch_left ∙ scratch_scanned _ _ _ _ e }
+    let e = sym c.scan_file.ensures ∙ ap scan_answer c.in-Scanned.is in
+    record {
+      result_value = c.open_sections.ensures.result_value ∙ open_scanned _ _ _ _ e;
+      scratch_left = c.open_sections.ensures.scratch_left ∙ scratch_scanned _ _ _ _ e;
+    }

@@ -26,4 +26,4 @@ count_properties-frames-requires c = scan_ends c.args.s.now (scan_is c.args.x) c
 pub returns : goal.returns
 returns c = let f : Front c.args.s.now (scan_is c.args.x) _ _ _ = record { bones_are = c.count_records-bones.ensures; morphs_are = c.count_records-morphs.ensures; cameras_are = c.count_records-cameras.ensures } in
     let b : Back c.args.s.now (scan_is c.args.x) _ _ _ = record { lights_are = c.count_records-lights.ensures; shadows_are = c.count_records-shadows.ensures; properties_are = c.count_properties-frames.ensures.0 } in
-    c.fits2.ensures ∙ ap is_given c.file_size.ensures ∙ within_given _ _ ∙ count_fits c.args.s.now (scan_is c.args.x) c.args.limit _ _ _ _ _ _ _ f b c.count_properties-frames.ensures.1
+    c.fits.ensures ∙ ap is_given c.file_size.ensures ∙ within_given _ _ ∙ count_fits c.args.s.now (scan_is c.args.x) c.args.limit _ _ _ _ _ _ _ f b c.count_properties-frames.ensures.1

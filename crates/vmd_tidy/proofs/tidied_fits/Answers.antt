@@ -6,7 +6,7 @@ use mathlib.Core.Path.{sym, ap, ◌∙◌}
 use Rattle.vmd_tidy.proofs.tidied_fits.Goals as goal
 
 pub returns-then-fits : goal.returns-then-fits
-returns-then-fits c = export_fits c.args.s.now (scan_is c.args.x) c.requires c.args.limit (sym (c.fits2.ensures ∙ ap is_given c.file_size-export.ensures ∙ within_given _ _) ∙ c.if_fits.true)
+returns-then-fits c = export_fits c.args.s.now (scan_is c.args.x) c.requires c.args.limit (sym (c.fits.ensures ∙ ap is_given c.file_size-export.ensures ∙ within_given _ _) ∙ c.if-fits.true)
 
 pub counted_fit-requires : goal.counted_fit-requires
 counted_fit-requires c = c.requires
