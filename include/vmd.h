@@ -13,7 +13,7 @@
  * all else the two give the same. vmd_season_add is lenient and has no strict twin. Calls for records, names and interpolation
  * bytes, vmd_model_name and vmd_joined_model read no whole take and have no manner.
  *
- * The functions are those of the proved library, built by 'rt staticlib vmd_c'. They allocate nothing, keep no state, and
+ * The functions are those of the proved library, built by 'rt lib' in crates/vmd_c. They allocate nothing, keep no state, and
  * can be called from any thread.
  *
  * Answers. A function that returns uint32_t returns 0, or the number of a refusal (vmd_refusal below). After a refusal every

@@ -5,8 +5,8 @@
 #
 # SOURCES is the folder with the original's files (crates/mmd-anim-format/.., crates/mmd-anim-runtime/..), by default
 # ../shared/docs/src beside the repository. Missing Debian packages are installed with apt-get. The program that compares
-# links the proved library as the crate does: the one that VMD_LIB names, else that of target/staticlib, built where it is
-# missing or old.
+# links the proved library as the crate does: the one that VMD_LIB names, else the repository's own, built where it is missing
+# or old.
 set -euo pipefail
 root=$(cd "$(dirname "$0")/.." && pwd)
 what=${1:-}

@@ -9,11 +9,7 @@ fail() { printf 'c_interface: %s\n' "$*" >&2; exit 1; }
 work=$(mktemp -d)
 trap 'rm -rf "$work"' EXIT
 
-library=${VMD_LIB:-target/staticlib/libvmd_c.a}
-if [ -z "${VMD_LIB:-}" ]; then
-    rt staticlib vmd_c > "$work/log" 2>&1 || { cat "$work/log" >&2; fail "'rt staticlib vmd_c' failed"; }
-fi
-[ -f "$library" ] || fail "$library is not there"
+library=$(host/library) || fail "there is no library"
 
 warnings=(-Wall -Wextra -Werror -pedantic -Iinclude)
 

@@ -8,7 +8,8 @@ fail() { printf 'host: %s\n' "$*" >&2; exit 1; }
 
 work=$(mktemp -d)
 trap 'rm -rf "$work"' EXIT
-program=target/bin/vmd_list
+. host/built
+program=$vmd_list
 [ -x "$program" ] || fail "$program is not there: run 'rt ci' first"
 command -v cargo > /dev/null || fail "Rust's cargo is not on the PATH"
 VMD_LIB=$(host/library) || fail "there is no library"

@@ -1,14 +1,13 @@
 #!/usr/bin/env bash
 # The second model (tests/model), written in C++ from the papers and include/vmd.h alone, against the static library: made-up
 # takes, hostile ones among them, through every call, each lent buffer ending at a page that cannot be touched. Then errors made
-# in the model on purpose, each of which has to be found. Run it from the repository's root, after c_interface.sh has built the
-# library; VMD_LIB names another. 'tests/model.sh COUNT SEED' runs that many takes of another seed, and no errors.
+# in the model on purpose, each of which has to be found. Run it from the repository's root. VMD_LIB names a library that is
+# built already. 'tests/model.sh COUNT SEED' runs that many takes of another seed, and no errors.
 set -euo pipefail
 
 fail() { printf 'model: %s\n' "$*" >&2; exit 1; }
 
-library=${VMD_LIB:-target/staticlib/libvmd_c.a}
-[ -f "$library" ] || fail "$library is not there: 'rt staticlib vmd_c' makes it"
+library=$(host/library) || fail "there is no library"
 work=$(mktemp -d)
 trap 'rm -rf "$work"' EXIT
 

@@ -4,8 +4,9 @@
 set -euo pipefail
 shopt -s lastpipe # so that what a pipe ends in counts, and may fail
 
-[ -x target/bin/presence_table ] || { echo "presence_table: target/bin/presence_table is not there: run 'rt ci' first" >&2; exit 1; }
-touch target/bin/presence_table # built from these sources
+. host/built
+[ -x "$presence_table" ] || { echo "presence_table: $presence_table is not there: run 'rt ci' first" >&2; exit 1; }
+touch "$presence_table" # built from these sources
 work=$(mktemp -d)
 trap 'rm -rf "$work"' EXIT
 tried=0
@@ -60,7 +61,7 @@ printf '1\t0x1\r' | prints 'a carriage return at the end' 1
 told 0 crates/presence_table/stdout /dev/null 'the index of the crate' < crates/presence_table/stdin
 
 # the table that the library has is that of this index, whose pointers are the runs'
-sed -n 's/^    \([0-9]*\),$/\1/p' crates/vmd_presence/src/lib.rt > "$work/table"
+sed -n '/^const PRESENCE:/,/^];/{ /^ /p }' crates/vmd_presence/src/lib.rt | grep -oE '[0-9]+' > "$work/table"
 told 0 "$work/table" /dev/null "the library's table" < crates/presence_table/stdin
 
 # longer than what is read at once, with a line across each border

@@ -3,7 +3,8 @@
 # `rt ci` has built the program.
 set -euo pipefail
 
-program=target/bin/vmd_list
+. host/built
+program=$vmd_list
 [ -x "$program" ] || { echo "vmd_list: $program is not there: run 'rt ci' first" >&2; exit 1; }
 work=$(mktemp -d)
 trap 'rm -rf "$work"' EXIT

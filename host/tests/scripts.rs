@@ -11,19 +11,28 @@ use std::time::{Duration, SystemTime};
 
 use common::{Folder, err, out, status};
 
-/// Proves two crates, and between them waits, for a minute at most, for a file `go`.
+/// Proves two crates, and between them waits, for a minute at most, for a file `go`; then builds the second, and runs a program.
 const RT: &str = r#"#!/bin/sh
-echo "$*" >> "$ROOT/calls"
-echo 'rt: vmd_format proved (3 s)'
-echo 'logic=proved: what the prover says besides'
+crate=${PWD##*/}
+echo "$* $crate" >> "$ROOT/calls"
+echo 'crate vmd_format: modules loaded=0 checked=15'
+echo 'logic=proved functions=0'
 for i in $(seq 6000); do [ -e "$ROOT/go" ] && break; sleep 0.01; done
 echo 'a term that does not fit' >&2
-[ ! -e "$ROOT/fail" ] || { echo 'rt: vmd_c NOT PROVED (exit 1, 2 s)'; exit 1; }
-echo 'rt: vmd_c proved (2 s)'
+echo "crate $crate: modules loaded=15 checked=5"
+[ ! -e "$ROOT/fail" ] || { echo 'logic=not-proved'; exit 1; }
+echo 'axioms std: none reached of the 2 declared'
+echo 'logic=proved functions=1'
 touch "$ROOT/ended"
-mkdir -p target/staticlib target/bin
-[ -e target/staticlib/libvmd_c.a ] || touch target/staticlib/libvmd_c.a
-[ -e target/bin/vmd_list ] || { printf '#!/bin/sh\necho listed\n' > target/bin/vmd_list && chmod +x target/bin/vmd_list; }
+mkdir -p out
+case "$* $crate" in
+    'lib vmd_c') [ -e out/libvmd_c.a ] || touch out/libvmd_c.a ;;
+    'run vmd_list')
+        [ -e out/vmd_list ] || { printf '#!/bin/sh\necho listed\n' > out/vmd_list && chmod +x out/vmd_list; }
+        out/vmd_list
+        ;;
+    *) exit 2 ;;
+esac
 "#;
 
 const CARGO: &str = r#"#!/bin/sh
@@ -36,22 +45,31 @@ mkdir -p "$into/release"
 printf '#!/bin/sh\necho "ran $*"\n' > "$into/release/vmd" && chmod +x "$into/release/vmd"
 "#;
 
-/// A repository with the scripts, a crate's source, and the toolchain that stands in.
+const SOURCE: &str = "crates/vmd_c/src/lib.rt";
+
+/// A repository with the scripts, two crates' sources, and the toolchain that stands in.
 fn repository(name: &str) -> Folder {
     let folder = Folder::new(name);
     let here = Path::new(env!("CARGO_MANIFEST_DIR")).join("..");
-    for name in ["crates", "host", "tools"] {
-        fs::create_dir(folder.join(name)).unwrap();
+    for name in ["crates/vmd_c/src", "crates/vmd_list/src", "host", "tools"] {
+        fs::create_dir_all(folder.join(name)).unwrap();
     }
-    folder.file("crates/lib.rt", b"");
-    for script in ["vmd", "vmd-list", "host/library", "host/prove"] {
+    for name in ["crates.txt", SOURCE, "crates/vmd_list/src/main.rt"] {
+        folder.file(name, b"");
+    }
+    for script in ["vmd", "vmd-list", "host/built", "host/library", "host/prove"] {
         fs::copy(here.join(script), folder.join(script)).unwrap();
     }
     for (tool, text) in [("tools/rt", RT), ("tools/cargo", CARGO)] {
         fs::set_permissions(folder.file(tool, text.as_bytes()), Permissions::from_mode(0o755)).unwrap();
     }
     // older than what is built from them, whatever the clock's steps are
-    ["crates", "crates/lib.rt", "host", "host/library", "host/prove"].iter().for_each(|name| age(&folder, name, 10));
+    for name in ["crates.txt", "host", "host/built", "host/library", "host/prove"] {
+        age(&folder, name, 10);
+    }
+    for name in ["crates/vmd_c/src", SOURCE, "crates/vmd_list/src", "crates/vmd_list/src/main.rt"] {
+        age(&folder, name, 10);
+    }
     folder
 }
 
@@ -76,12 +94,12 @@ fn calls(folder: &Folder) -> usize {
     fs::read_to_string(folder.join("calls")).unwrap_or_default().lines().count()
 }
 
-/// The line of the first crate is there while the second is still to be proved.
-fn expect_shown_as_it_comes(folder: &Folder, words: &[&str], printed: &str) -> String {
+/// The line of the first crate is there while the second, the one that is built, is still to be proved.
+fn expect_shown_as_it_comes(folder: &Folder, words: &[&str], built: &str, printed: &str) -> String {
     let mut child = script(folder, words).spawn().unwrap();
     let mut said = BufReader::new(child.stderr.take().unwrap());
     let mut text = String::new();
-    while !text.contains("rt: vmd_format proved (3 s)\n") {
+    while !text.contains("vmd_format proved\n") {
         assert!(said.read_line(&mut text).unwrap() > 0, "it ended with: {text}");
     }
     assert!(!folder.join("ended").exists(), "it was shown after all was proved");
@@ -89,25 +107,25 @@ fn expect_shown_as_it_comes(folder: &Folder, words: &[&str], printed: &str) -> S
     said.read_to_string(&mut text).unwrap();
     let done = child.wait_with_output().unwrap();
     assert_eq!((status(&done), out(&done)), (0, printed.into()), "{text}");
-    assert!(text.contains("rt: vmd_c proved (2 s)\n") && !text.contains("logic=") && !text.contains("a term"), "{text}");
+    assert!(text.contains(&format!("{built} proved\n")) && !text.contains("logic=") && !text.contains("a term"), "{text}");
     text
 }
 
 #[test]
 fn vmd_shows_what_it_is_doing() {
     let folder = repository("first-use");
-    let text = expect_shown_as_it_comes(&folder, &["vmd", "list", "a b"], "ran list a b\n");
+    let text = expect_shown_as_it_comes(&folder, &["vmd", "list", "a b"], "vmd_c", "ran list a b\n");
     assert!(text.ends_with("vmd: building the command\n"), "{text}");
     // built: not a word
     let done = run(&folder, &["vmd", "list"]);
     assert_eq!((status(&done), out(&done), err(&done)), (0, "ran list\n".into(), String::new()));
     assert_eq!(calls(&folder), 2);
     // a source that is newer: all again, and then not a word
-    ["target/staticlib/libvmd_c.a", "target/host/release/vmd"].iter().for_each(|name| age(&folder, name, 5));
-    age(&folder, "crates/lib.rt", 2);
+    ["crates/vmd_c/out/libvmd_c.a", "target/host/release/vmd"].iter().for_each(|name| age(&folder, name, 5));
+    age(&folder, SOURCE, 2);
     let done = run(&folder, &["vmd", "list"]);
     assert_eq!((status(&done), out(&done)), (0, "ran list\n".into()));
-    assert!(err(&done).contains("rt: vmd_c proved (2 s)\n"), "{}", err(&done));
+    assert!(err(&done).contains("vmd_c proved\n"), "{}", err(&done));
     assert_eq!(calls(&folder), 4);
     assert_eq!(err(&run(&folder, &["vmd", "list"])), "");
     assert_eq!(calls(&folder), 4);
@@ -130,17 +148,25 @@ fn vmd_is_built_where_it_is_run() {
 #[test]
 fn vmd_list_shows_what_it_is_doing_and_is_built_again() {
     let folder = repository("vmd-list");
-    expect_shown_as_it_comes(&folder, &["vmd-list"], "listed\n");
+    expect_shown_as_it_comes(&folder, &["vmd-list"], "vmd_list", "listed\n");
     let done = run(&folder, &["vmd-list"]);
     assert_eq!((status(&done), out(&done), err(&done)), (0, "listed\n".into(), String::new()));
     assert_eq!(calls(&folder), 1);
-    age(&folder, "target/bin/vmd_list", 5);
-    age(&folder, "crates/lib.rt", 2);
-    let done = run(&folder, &["vmd-list"]);
-    assert_eq!((status(&done), out(&done)), (0, "listed\n".into()));
-    assert_eq!(calls(&folder), 2, "a source is newer, and it was not built again");
+    for (expected, source) in [(2, SOURCE), (3, "crates.txt")] {
+        age(&folder, "crates/vmd_list/out/vmd_list", 5);
+        age(&folder, source, 2);
+        let done = run(&folder, &["vmd-list"]);
+        assert_eq!((status(&done), out(&done)), (0, "listed\n".into()));
+        assert_eq!(calls(&folder), expected, "{source} is newer, and it was not built again");
+        run(&folder, &["vmd-list"]);
+        assert_eq!(calls(&folder), expected, "nothing is newer, and it was built again");
+    }
+    // what the toolchain leaves beside is no source
+    age(&folder, "crates/vmd_list/out/vmd_list", 1);
+    fs::create_dir(folder.join("crates/vmd_c/out")).unwrap();
+    folder.file("crates/vmd_c/out/libvmd_c.a", b"");
     run(&folder, &["vmd-list"]);
-    assert_eq!(calls(&folder), 2, "nothing is newer, and it was built again");
+    assert_eq!(calls(&folder), 3, "another crate was built, and it was built again");
 }
 
 /// A file that is named would be waited for on standard input.
@@ -180,9 +206,7 @@ fn a_proof_or_a_build_that_fails() {
     for words in [&["vmd", "list"][..], &["vmd-list"]] {
         let done = run(&folder, words);
         assert_eq!((status(&done), out(&done)), (2, String::new()), "{words:?}");
-        for line in
-            ["logic=proved: what the prover says besides", "a term that does not fit", "rt: vmd_c NOT PROVED (exit 1, 2 s)"]
-        {
+        for line in ["logic=proved functions=0", "a term that does not fit", "logic=not-proved"] {
             assert!(err(&done).lines().any(|said| said == line), "{words:?}: {}", err(&done));
         }
     }

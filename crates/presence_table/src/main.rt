@@ -2,7 +2,10 @@
 // there is none, and prints nothing.
 #![tactic(auto)]
 
-use libc::{STDERR_FILENO, STDIN_FILENO, STDOUT_FILENO};
+ghost use Rattle.std.specs.Prelude.{◌≡◌, true, IfSome};
+ghost use Rattle.vmd_index.specs.Steps.{first_reader, fed};
+
+use std::io::Read;
 use vmd_index::{Cause, IndexRead, IndexReader, Outcome};
 
 // What has been read, and whether that is all of standard input.
@@ -12,28 +15,24 @@ struct Input {
     whole: bool,
 }
 
-fn read_input() -> Input {
+// Reads to the end of the input. Where no read fails the reader has read all that the input had, however long the pieces were.
+fn read_input<R: Read>(input: &mut R) -> Input
+    ensures { result.whole ≡ true → IfSome (R.remaining input.old) (λ xs. result.reader ≡ fed first_reader xs) }
+{
     let mut piece = [0u8; 65536];
     let mut reader = vmd_index::index_reader();
     // A proved loop has to end, and nothing says that an input does: no input has as many pieces.
-    let mut turns = u64::MAX;
-    while turns > 0 {
-        let got = libc::read(STDIN_FILENO, &mut piece);
-        if got < 0 {
-            return Input {
-                reader,
-                whole: false,
-            };
+    for _ in 0..u64::MAX {
+        match input.read(&mut piece) {
+            Ok(0) => {
+                return Input {
+                    reader,
+                    whole: true,
+                };
+            }
+            Ok(n) => reader = vmd_index::read_index(reader, &piece[..n]),
+            Err(_) => break,
         }
-        if got == 0 {
-            return Input {
-                reader,
-                whole: true,
-            };
-        }
-        let n = io::count(got, &piece);
-        reader = vmd_index::read_index(reader, &piece[..n]);
-        turns -= 1;
     }
     Input {
         reader,
@@ -41,43 +40,42 @@ fn read_input() -> Input {
     }
 }
 
-fn print_table(words: [u32; vmd_presence::WORDS]) {
+// Says why there is no table. Where that cannot be said either, nobody is there to be told.
+fn say(rt: &HostRuntime, text: &[u8]) {
+    let _ = rt.stderr().write_all(text);
+}
+
+fn print_table(rt: &HostRuntime, words: [u32; vmd_presence::WORDS]) {
     let mut text = [0u8; 4096];
     let n = vmd_index::write_words(&words, &mut text);
-    if !io::write_all(STDOUT_FILENO, &text[..n]) {
-        io::write_all(
-            STDERR_FILENO,
-            b"presence-table: the table cannot be written\n",
-        );
+    if rt.write_all(&text[..n]).is_err() {
+        say(rt, b"presence-table: the table cannot be written\n");
     }
 }
 
-fn print_fault(line: u64, cause: Cause) {
+fn print_fault(rt: &HostRuntime, line: u64, cause: Cause) {
     let mut text = [0u8; 128];
     let n = vmd_index::write_message(line, cause, &mut text);
-    io::write_all(STDERR_FILENO, &text[..n]);
+    say(rt, &text[..n]);
 }
 
-fn print_read(read: IndexRead) {
+fn print_read(rt: &HostRuntime, read: IndexRead) {
     let outcome = read.outcome;
     match outcome {
         Outcome::Complete => {
             let words = read.words;
-            print_table(words);
+            print_table(rt, words);
         }
-        Outcome::Faulty(line, cause) => print_fault(line, cause),
+        Outcome::Faulty(line, cause) => print_fault(rt, line, cause),
     }
 }
 
-fn main() {
-    let input = read_input();
+fn main(rt: HostRuntime) {
+    let input = read_input(&mut rt.stdin());
     if !input.whole {
-        io::write_all(
-            STDERR_FILENO,
-            b"presence-table: standard input cannot be read\n",
-        );
+        say(&rt, b"presence-table: standard input cannot be read\n");
         return;
     }
     let reader = input.reader;
-    print_read(vmd_index::index_words(reader));
+    print_read(&rt, vmd_index::index_words(reader));
 }

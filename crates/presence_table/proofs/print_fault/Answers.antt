@@ -5,5 +5,5 @@ use Rattle.presence_table.proofs.print_fault.Goals as goal
 pub slice_bounds-text-end : goal.slice_bounds-text-end
 slice_bounds-text-end c = let w = c.write_message-n in (front_fits _ _ _ _ w.ensures.out_after w.ensures.value).0
 
-pub slice_bounds-write_all-end : goal.slice_bounds-write_all-end
-slice_bounds-write_all-end c = let w = c.write_message-n in (front_fits _ _ _ _ w.ensures.out_after w.ensures.value).1
+pub slice_bounds-say-end : goal.slice_bounds-say-end
+slice_bounds-say-end c = let w = c.write_message-n in (front_fits _ _ _ _ w.ensures.out_after w.ensures.value).1

@@ -1,10 +1,8 @@
--- `presence_table::read_input` is safe and ends. The invariant is the length of the array that is lent. Assumes nothing.
-use mathlib.Core.Path.{◌≡◌}
-use lib.ListN.{length}
+-- `presence_table::read_input` meets its contract: what is left of the input, read by the reader, makes what all of it makes.
+-- Assumes nothing.
+use Rattle.std.proofs.Common.{◌≡◌, length}
+use Rattle.presence_table.proofs.Pieces.{ReadSoFar}
 use Rattle.presence_table.proofs.read_input.Given as goal
 
-abbrev pub invariant-loop-turns : goal.invariant-loop-turns
-invariant-loop-turns l = 65536 ≡ length l.piece
-
-abbrev pub decreases-loop-turns : goal.decreases-loop-turns
-decreases-loop-turns l = l.turns
+abbrev pub invariant-loop : goal.invariant-loop
+invariant-loop g l = (length l.piece ≡ 65536) × ReadSoFar (g.R.Read.remaining l.initial.input) (g.R.Read.remaining l.input) l.reader
