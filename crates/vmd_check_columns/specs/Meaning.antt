@@ -2,7 +2,6 @@
 use Rattle.std.specs.Prelude.{List, map, ℕ, Float}
 use Rattle.std.specs.Float.{binary32}
 use Rattle.std.specs.Float.Ieee.{to_bits}
-use Rattle.vmd_format.specs.Parts as format
 
 -- the floats of a column by their bits
 abbrev pub bits : List Float → List ℕ

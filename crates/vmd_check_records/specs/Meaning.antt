@@ -1,5 +1,4 @@
 -- What the count of property frames means. Definitions only.
-use Rattle.vmd_format.specs.Parts as format
 use Rattle.vmd_check_records.specs.declared.Frames.{Frames}
 use Rattle.vmd_check_records.specs.declared.Frames.TheVariants.{NotWhole, Whole}
 use Rattle.vmd_check_records.specs.Stages.{Counted, not_whole, whole}

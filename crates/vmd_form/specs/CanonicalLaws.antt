@@ -1,5 +1,5 @@
 -- The laws of canonical files (02 l), in every manner of reading.
-use Rattle.std.specs.Prelude.{ℕ, ◌+◌, ◌≡◌, refl, ◌↔◌, Bool, true, false, List, ◌++◌, leb, length, take, drop}
+use Rattle.std.specs.Prelude.{ℕ, ◌≡◌, refl, ◌↔◌, Bool, true, false, List, ◌++◌, leb, length, take, drop}
 use Rattle.std.proofs.Common.{ap, sym, ◌∙◌, arith, le-leb, leb-true, take-append-drop}
 use Rattle.vmd_format.specs.Refusal.{Refusal, scratch_too_short}
 use Rattle.vmd_format.specs.Answer.{Answer, declined, given, and_then, map_answer, unless}

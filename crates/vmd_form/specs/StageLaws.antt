@@ -1,5 +1,5 @@
 -- Comparing the sections of a file one after another, and the whole of it. Assumes nothing.
-use Rattle.std.specs.Prelude.{ℕ, ◌+◌, ◌*◌, ◌-◌, ◌≤◌, refl, List, ◌++◌, take, drop}
+use Rattle.std.specs.Prelude.{ℕ, ◌+◌, ◌*◌, ◌≤◌, refl, List, ◌++◌, take, drop}
 use Rattle.std.proofs.Math.Path.{◌≡◌}
 use Rattle.std.proofs.Common.{ap, sym, ◌∙◌, subst, arith, zero-mul, take-append-drop}
 use Rattle.std.proofs.Math.ListN.{length, length-drop}

@@ -1,5 +1,5 @@
 -- Export and joining by places: what is written in terms of a scan, and how long it is.
-use Rattle.std.specs.Prelude.{ℕ, ◌+◌, ◌-◌, ◌≡◌, refl, ◌&&◌, List, [], ◌∷◌, ◌++◌, length, drop, leb}
+use Rattle.std.specs.Prelude.{ℕ, ◌+◌, ◌≡◌, refl, ◌&&◌, List, [], ◌∷◌, ◌++◌, length, drop, leb}
 use Rattle.std.proofs.Common.{ap, sym, ◌∙◌, subst, arith, length-append}
 use Rattle.vmd_format.specs.Answer.{Answer, declined, given, and_then, map_answer}
 use Rattle.vmd_format.specs.Records.{Property, bone, morph, camera, light, self_shadow}

@@ -1,5 +1,5 @@
 -- What is written is bytes and is read back, and what is read can be written: for each layout and for layouts put together.
-use Rattle.std.specs.Prelude.{ℕ, ◌+◌, ◌≤◌, ◌<◌, ◌^◌, ◌≡◌, refl, List, [], ◌++◌, length, drop}
+use Rattle.std.specs.Prelude.{ℕ, ◌≤◌, ◌<◌, ◌^◌, ◌≡◌, refl, List, [], ◌++◌, length, drop}
 use Rattle.std.proofs.Common.{ap, sym, ◌∙◌, subst, append_assoc, arith, length-append, length-drop, drop_at}
 use Rattle.vmd_format.specs.Bytes.{u32_bytes, flag_byte, inverted_byte}
 use Rattle.vmd_laws.specs.BytesLaws.{Bytes, bytes_drop, bytes_nil, bytes_cons, bytes_append, u32_back, u32_lt, u32_bytes_small, Name, Raw, padded_length, padded_small, padded_back, padded_take, name_fair, raw_fair, inverted_back, flag_back, inverted_small, flag_small}

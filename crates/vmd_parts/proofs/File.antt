@@ -10,7 +10,7 @@ use Rattle.vmd_format.specs.Refusal.{Refusal}
 use Rattle.vmd_format.specs.Answer.{declined, given, within}
 use Rattle.vmd_format.specs.Bytes.{u32_bytes}
 use Rattle.vmd_format.specs.Records.{Bone, Morph, bone, morph}
-use Rattle.vmd_format.specs.Read.{table, fixed, write_all, write_counted}
+use Rattle.vmd_format.specs.Read.{fixed, write_all, write_counted}
 use Rattle.vmd_format.specs.Take.{newer, property, write_header, write_sections, write_edition, write_take}
 use Rattle.vmd_format.specs.Opening.{Extent}
 use Rattle.vmd_laws.specs.Places.{Reaches}

@@ -1,5 +1,5 @@
 -- Laws of what the checks let through, and of the size of what is built. Assumes nothing.
-use Prim.Native.Nat.{ℕ, ◌+◌, ◌-◌, ◌*◌, ◌/◌, ◌%◌, ◌≤◌, ◌<◌}
+use Prim.Native.Nat.{ℕ, ◌+◌, ◌*◌, ◌/◌, ◌%◌, ◌≤◌, ◌<◌}
 use mathlib.Core.Path.{◌≡◌, ap, sym, ◌∙◌}
 use mathlib.Core.Bool.{true}
 use mathlib.Core.List.{List, map}
@@ -11,7 +11,7 @@ use Rattle.vmd_format.specs.Answer.{Answer, declined, map_answer, fitted, within
 use Rattle.vmd_format.specs.Take.{write_take}
 use Rattle.vmd_laws.specs.Lengths.{export_length}
 use Rattle.vmd_format.specs.Opening.{ik_total}
-use Rattle.vmd_format.specs.Parts.{Parts, names_of, frames, properties_of, upto, bone_at, morph_at, take_of_parts, passes, fails, ◌next◌, each, is_got, name_check, bone_check, morph_check, parts_check, build}
+use Rattle.vmd_format.specs.Parts.{Parts, names_of, frames, properties_of, upto, bone_at, morph_at, take_of_parts, passes, fails, each, is_got, name_check, bone_check, morph_check, parts_check, build}
 use Rattle.vmd_laws.specs.PartsLaws.{upto_length, next_passes, need_passes, Counts, counts_pass, Columns, columns_pass, build_given, build_refused}
 use Rattle.vmd_laws.specs.SizedLaws.{camera_sized, light_sized, self_shadow_sized}
 use Rattle.vmd_output.proofs.Saves.{refused_answer, given_answer}

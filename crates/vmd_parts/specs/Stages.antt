@@ -1,5 +1,5 @@
 -- What writing meets: the parts as the checks let them through, and the bytes in two halves. Definitions only.
-use Rattle.std.specs.Prelude.{ℕ, ◌+◌, ◌/◌, ◌≤◌, ◌≡◌, true, List, ◌++◌, length}
+use Rattle.std.specs.Prelude.{ℕ, ◌/◌, ◌≤◌, ◌≡◌, true, List, ◌++◌, length}
 use Rattle.vmd_format.specs.Read.{fixed, write_counted}
 use Rattle.vmd_format.specs.Take.{newer, property, write_header}
 use Rattle.vmd_format.specs.Records.{Bone, Morph, bone, morph, camera, light, self_shadow}

@@ -1,6 +1,6 @@
 -- Season figures of files that are written out, computed: another number for every figure, each limit of 64 bits, and two files
 -- that differ only where no figure looks.
-use Rattle.std.specs.Prelude.{ℕ, ◌+◌, ◌-◌, ◌≡◌, refl, Bool, true, false, not, List, [], ◌∷◌, ◌++◌, get_or, replicate, T, eqb}
+use Rattle.std.specs.Prelude.{ℕ, ◌-◌, ◌≡◌, refl, Bool, true, false, not, List, [], ◌∷◌, ◌++◌, get_or, replicate, T, eqb}
 use Rattle.vmd_format.specs.Read.{lenient}
 use Rattle.vmd_format.specs.Computed.{computed, text, older_text, start, fours, u0, u1, bone_bytes, morph_bytes, camera_bytes, light_bytes, shadow_bytes, ik_bytes, morph_said, light_said, shadow_said, ik_said, every}
 use Rattle.vmd_keys.specs.Names.{bone_names_of, morph_names_of, registered_if, registration_name, keep_if, select, distinct}

@@ -1,5 +1,5 @@
 -- The laws of tidying (02 g), of what the call answers and leaves in output and scratch, in every manner of reading.
-use Prim.Native.Nat.{ℕ, ◌+◌, ◌/◌, ◌≤◌, ◌<◌, max}
+use Prim.Native.Nat.{ℕ, ◌/◌, ◌≤◌, ◌<◌, max}
 use Rattle.std.proofs.Math.Path.{◌≡◌, refl, ap, sym}
 use Rattle.std.proofs.Common.{◌∙◌, arith}
 use Rattle.std.specs.Prelude.{Bool, drop}

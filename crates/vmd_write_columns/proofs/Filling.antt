@@ -15,7 +15,7 @@ use Rattle.vmd_format.specs.Refusal.{name_index_too_large, not_finite}
 use Rattle.vmd_format.specs.Records.{bone, morph}
 use Rattle.vmd_format.specs.Read.{write_all}
 use Rattle.vmd_laws.specs.Rewriting.{padded_front}
-use Rattle.vmd_format.specs.Parts.{NameTable, Check, passes, ◌next◌, each, finite, all_finite, names_of, upto}
+use Rattle.vmd_format.specs.Parts.{NameTable, Check, passes, each, finite, all_finite, names_of, upto}
 use Rattle.vmd_laws.specs.PartsLaws.{all_at, upto_length, next_passes, need_passes, each_passes}
 use Rattle.vmd_bytes.specs.Slices.{splice, run}
 use Rattle.vmd_bytes.proofs.Laws.{part_cons}

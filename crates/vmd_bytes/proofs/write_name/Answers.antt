@@ -1,4 +1,4 @@
-use Rattle.std.proofs.Common.{◌-◌, true, sym, refl, ◌∙◌, arith}
+use Rattle.std.proofs.Common.{true, sym, refl, ◌∙◌, arith}
 use Rattle.vmd_bytes.proofs.Laws.{name_start, live_start, name_turn, live_turn, name_whole}
 use Rattle.vmd_bytes.proofs.write_name.Goals as goal
 

@@ -1,4 +1,3 @@
-use Prim.Native.Nat.{◌-◌}
 use native.Mathlib.Omega.{arith}
 use Rattle.vmd_check_records.proofs.Properties.{counting_start, counting_short, counting_over, counting_turn, counting_end}
 use Rattle.vmd_check_records.proofs.count_frames.Goals as goal

@@ -1,6 +1,5 @@
 use mathlib.Core.Path.{ap}
 use native.Mathlib.Omega.{arith}
-use Rattle.vmd_format.specs.Parts.{ik_check}
 use Rattle.vmd_laws.specs.SizedLaws.{ik_state_sized}
 use Rattle.vmd_names.specs.Meaning.{check_of}
 use Rattle.vmd_check_records.proofs.Records.{checking_start, checking_lies, checking_fails, checking_turn, checking_end}

@@ -1,6 +1,5 @@
 use mathlib.Core.Path.{ap, ◌∙◌}
 use native.Mathlib.Omega.{arith}
-use Rattle.vmd_format.specs.Parts.{self_shadow_check}
 use Rattle.vmd_laws.specs.SizedLaws.{self_shadow_sized}
 use Rattle.vmd_names.specs.Meaning.{check_of}
 use Rattle.vmd_check_records.proofs.Records.{records_start, records_are, checking_lies, checking_fails, checking_turn, checking_end}

@@ -1,7 +1,5 @@
 use mathlib.Core.Path.{ap}
-use Prim.Native.Nat.{◌-◌}
 use native.Mathlib.Omega.{arith}
-use Rattle.vmd_format.specs.Parts.{name_check}
 use Rattle.vmd_names.specs.Meaning.{check_of}
 use Rattle.vmd_check_tables.proofs.Tables.{naming_start, naming_fits, naming_fails, naming_turn, naming_end}
 use Rattle.vmd_check_tables.proofs.names_check.Goals as goal

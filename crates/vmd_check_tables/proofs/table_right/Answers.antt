@@ -1,4 +1,3 @@
-use Prim.Native.Nat.{◌-◌}
 use native.Mathlib.Omega.{arith}
 use Rattle.vmd_format.specs.Parts.{table_right}
 use Rattle.vmd_check_tables.proofs.Tables.{ending_start, ending_fails, ending_turn, ending_end}

@@ -1,5 +1,4 @@
 use mathlib.Core.Path.{refl, sym, ◌∙◌}
-use Prim.Native.Nat.{◌-◌}
 use native.Mathlib.Omega.{arith}
 use Rattle.vmd_form.specs.FieldLaws.{bytes_agree, bytes_differ, bytes_ended, bytes_done}
 use Rattle.vmd_compare.proofs.compare_bytes.Goals as goal

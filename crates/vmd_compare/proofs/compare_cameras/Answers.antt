@@ -1,5 +1,4 @@
 use mathlib.Core.Path.{sym, ap, ◌∙◌}
-use Prim.Native.Nat.{◌-◌}
 use native.Mathlib.Omega.{arith}
 use Rattle.vmd_form.specs.RowLaws.{left_start, left_room, left_turn, left_differs, left_done, camera_is, camera_length}
 use Rattle.vmd_compare.specs.Meaning.{compared_is}

@@ -1,5 +1,4 @@
 use mathlib.Core.Path.{refl, sym, ◌∙◌}
-use Prim.Native.Nat.{◌-◌}
 use native.Mathlib.Omega.{arith}
 use Rattle.vmd_form.specs.FieldLaws.{zeros_agree, zeros_differ, zeros_done}
 use Rattle.vmd_compare.proofs.compare_zeros.Goals as goal

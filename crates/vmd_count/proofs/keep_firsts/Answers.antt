@@ -1,5 +1,4 @@
 use mathlib.Core.Path.{◌≡◌}
-use Prim.Native.Nat.{◌-◌}
 use native.Mathlib.Omega.{arith}
 use Rattle.vmd_count.proofs.HeldLaws.{firsts_start, firsts_turn}
 use Rattle.vmd_count.proofs.keep_firsts.Goals as goal

@@ -1,5 +1,4 @@
 use mathlib.Core.Path.{◌≡◌, refl}
-use Prim.Native.Nat.{◌-◌}
 use native.Mathlib.Omega.{arith}
 use Rattle.vmd_keys.specs.Keys.{key}
 use Rattle.vmd_count.proofs.HeldLaws.{holds_start}

@@ -1,5 +1,4 @@
 use mathlib.Core.Path.{◌≡◌}
-use Prim.Native.Nat.{◌-◌}
 use native.Mathlib.Omega.{arith}
 use Rattle.vmd_count.proofs.Counts.{sum_turn, sum_start}
 use Rattle.vmd_count.proofs.weigh.Goals as goal

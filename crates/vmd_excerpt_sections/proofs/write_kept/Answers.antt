@@ -73,7 +73,7 @@ loop-left-preserved c = let k = c.args.kind in
       rw z (omega (arith, c.loop-left.invariant.1, fewer (size_of k) n c.loop-left.left m)),
       rw z (
           elim c.if-on.branch [
-            then-on w ↦ rw (w.out-is, w.q-is, w.kept-is) (keeping_kept (rows k s n c.loop-left.p) others c.loop-left.invariant.2 t (rw w.if-on.true at c.run_length-n.ensures.2) n (table_length (layout k) n (drop c.loop-left.p s)) w.write_run-q.ensures)
+            | then-on w ↦ rw (w.out-is, w.q-is, w.kept-is) (keeping_kept (rows k s n c.loop-left.p) others c.loop-left.invariant.2 t (rw w.if-on.true at c.run_length-n.ensures.2) n (table_length (layout k) n (drop c.loop-left.p s)) w.write_run-q.ensures)
             | else-on w ↦ rw (w.out-is, w.q-is, w.kept-is) (keeping_dropped (rows k s n c.loop-left.p) others c.loop-left.invariant.2 t (rw w.if-on.false at c.run_length-n.ensures.2))
           ]),
     )

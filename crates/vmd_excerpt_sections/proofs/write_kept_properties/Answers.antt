@@ -49,8 +49,8 @@ loop-left-preserved c = let s = c.args.s.now in
     rw c.next_property_frame-p.ensures (
       r.1,
       elim c.if-is_between.branch [
-          then-is_between t ↦ rw (t.out-is, t.q-is, t.kept-is) (one_kept (property_in s c.loop-left.p) others c.loop-left.invariant.1 f (b ∙ t.if-is_between.true) t.write_moved_property-q.ensures)
-          | else-is_between t ↦ rw (t.out-is, t.q-is, t.kept-is) (one_dropped (property_in s c.loop-left.p) others c.loop-left.invariant.1 f (b ∙ t.if-is_between.false))
+        | then-is_between t ↦ rw (t.out-is, t.q-is, t.kept-is) (one_kept (property_in s c.loop-left.p) others c.loop-left.invariant.1 f (b ∙ t.if-is_between.true) t.write_moved_property-q.ensures)
+        | else-is_between t ↦ rw (t.out-is, t.q-is, t.kept-is) (one_dropped (property_in s c.loop-left.p) others c.loop-left.invariant.1 f (b ∙ t.if-is_between.false))
       ],
     )
 

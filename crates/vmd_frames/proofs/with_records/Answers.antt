@@ -6,13 +6,12 @@ use Rattle.vmd_frames.proofs.Frames.{frame_inside, seen_turn, seen_done}
 use Rattle.vmd_frames.proofs.with_records.Goals as goal
 
 pub loop-i-init : goal.loop-i-init
-loop-i-init c =
-    (
-      omega arith,
-      rw (sub-zero, c.size-size.ensures) c.requires.ends,
-      rw (c.frame_offset-offset.ensures, c.size-size.ensures) (frame_inside c.args.kind),
-      rw sub-zero refl,
-    )
+loop-i-init c = (
+  omega arith,
+  rw (sub-zero, c.size-size.ensures) c.requires.ends,
+  rw (c.frame_offset-offset.ensures, c.size-size.ensures) (frame_inside c.args.kind),
+  rw sub-zero refl,
+)
 
 pub overflow_add-at : goal.overflow_add-at
 overflow_add-at c = omega (arith, record_inside c.args.file.now c.size-size.result c.args.section.count c.loop-i.i c.loop-i.at (omega arith) c.loop-i.invariant.1)

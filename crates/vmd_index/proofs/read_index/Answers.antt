@@ -1,4 +1,4 @@
-use Rattle.std.proofs.Common.{◌-◌, refl, arith}
+use Rattle.std.proofs.Common.{refl, arith}
 use Rattle.vmd_index.proofs.Laws.{fed_byte, fed_line, fed_done}
 use Rattle.vmd_index.proofs.read_index.Goals as goal
 
@@ -24,12 +24,11 @@ pub phase_after-phase-requires : goal.phase_after-phase-requires
 phase_after-phase-requires c = tt
 
 pub loop-i-preserved-then-b-eq10 : goal.loop-i-preserved-then-b-eq10
-loop-i-preserved-then-b-eq10 c =
-    (
-      omega arith,
-      fed_line _ _ _ _ _ _ c.loop-i.invariant.1 c.loop-i-test.true c.if-b-eq10.true c.phase_end-found.ensures c.pointer_of.ensures
-          c.mark.ensures c.line_after-line.ensures c.least_after-least.ensures c.phase_after-phase.ensures,
-    )
+loop-i-preserved-then-b-eq10 c = (
+  omega arith,
+  fed_line _ _ _ _ _ _ c.loop-i.invariant.1 c.loop-i-test.true c.if-b-eq10.true c.phase_end-found.ensures c.pointer_of.ensures
+      c.mark.ensures c.line_after-line.ensures c.least_after-least.ensures c.phase_after-phase.ensures,
+)
 
 pub next_phase-phase-requires : goal.next_phase-phase-requires
 next_phase-phase-requires c = tt

@@ -1,5 +1,4 @@
 use mathlib.Core.Path.{refl, ◌∙◌}
-use Prim.Native.Nat.{◌-◌}
 use native.Mathlib.Omega.{arith}
 use Rattle.vmd_sort.specs.Order.{key}
 use Rattle.vmd_kept.proofs.Passes.{pass_start, pass_within, pass_turn, pass_end}

@@ -1,5 +1,4 @@
 use mathlib.Core.Path.{◌≡◌}
-use Prim.Native.Nat.{◌-◌}
 use native.Mathlib.Omega.{arith}
 use Rattle.vmd_laws.specs.BytesLaws.{Bytes}
 use Rattle.vmd_kept.proofs.Totals.{weigh_start, weigh_turn}

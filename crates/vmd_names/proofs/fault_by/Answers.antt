@@ -1,5 +1,4 @@
 use mathlib.Core.Path.{◌∙◌, sym}
-use Prim.Native.Nat.{◌-◌}
 use native.Mathlib.Omega.{arith}
 use Rattle.vmd_laws.specs.NamesLaws.{fault_start, fault_stop, unit_end}
 use Rattle.vmd_names.proofs.Names.{unit_within, good_turn}

@@ -1,5 +1,4 @@
 use mathlib.Core.Path.{refl}
-use Prim.Native.Nat.{◌-◌}
 use native.Mathlib.Omega.{arith}
 use Rattle.vmd_names.proofs.Names.{unit_within, field_ends, field_zero, field_faulty, field_turn}
 use Rattle.vmd_names.proofs.good_field.Goals as goal

@@ -1,9 +1,7 @@
 -- `vmd_reader::open_file` meets its contract. Assumes nothing.
-use mathlib.Core.Path.{◌≡◌, sym, ap, ◌∙◌}
-use Rattle.vmd_laws.specs.Places.{scan_file}
+use mathlib.Core.Path.{sym, ap, ◌∙◌}
 use Rattle.vmd_scan.specs.Meaning.{scan_answer}
 use Rattle.vmd_laws.specs.InsideLaws.{inside_file}
-use Rattle.vmd_base.specs.Meaning.{manner_of}
 use Rattle.vmd_reader.proofs.Laws.{open_refused, open_scanned, scratch_refused, scratch_scanned}
 use Rattle.vmd_reader.proofs.open_file.Goals as goal
 

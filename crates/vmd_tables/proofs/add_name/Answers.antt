@@ -12,8 +12,7 @@ copy_bytes-requires c =
     (omega arith, omega arith)
 
 pub returns : goal.returns
-returns c =
-    (
-      copied c.args.s.now c.args.p c.args.bytes.now c.args.to c.trim_fixed_bytes-name.ensures c.copy_bytes.ensures,
-      ap (λ l. c.args.to + length l) (trimmed c.args.s.now c.args.p c.trim_fixed_bytes-name.ensures),
-    )
+returns c = (
+  copied c.args.s.now c.args.p c.args.bytes.now c.args.to c.trim_fixed_bytes-name.ensures c.copy_bytes.ensures,
+  ap (λ l. c.args.to + length l) (trimmed c.args.s.now c.args.p c.trim_fixed_bytes-name.ensures),
+)

@@ -1,8 +1,7 @@
-use Prim.Native.Nat.{◌<◌, ◌-◌}
+use Prim.Native.Nat.{◌<◌}
 use mathlib.Core.Path.{refl, ◌∙◌}
 use native.Mathlib.Omega.{arith}
 use lib.ListN.{length}
-use Rattle.vmd_keys.specs.Names.{whole}
 use Rattle.vmd_tables.proofs.Leaders.{beyond_same, beyond_set, leads_start, lists_start, leads_turn, lists_turn, lists_end}
 use Rattle.vmd_tables.proofs.list_leaders.Goals as goal
 

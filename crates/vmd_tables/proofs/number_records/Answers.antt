@@ -1,4 +1,4 @@
-use Prim.Native.Nat.{ℕ, ◌-◌}
+use Prim.Native.Nat.{ℕ}
 use native.Mathlib.Omega.{arith}
 use Rattle.vmd_tables.proofs.Numbering.{space, record_room, numbered_start, numbered_fits, numbered_turn, numbered_end, bytes_long, ends_long, indices_long}
 use Rattle.vmd_tables.proofs.number_records.Goals as goal
@@ -10,12 +10,15 @@ loop-i-init c =
 pub number_record-table-requires : goal.number_record-table-requires
 number_record-table-requires c =
     let g = c.loop-i.invariant.1 in
-    let p = c.requires in record { i_in_bounds = (
+    let p = c.requires in record {
+      i_in_bounds = (
         omega arith,
         omega (arith, indices_long g (space (p.rows, p.n_in_bounds)) (omega arith)),
         p.rows.4.leads.back c.loop-i.i (omega arith),
         record_room c.loop-i.i p.rows.0 (omega arith),
-      ); fits = numbered_fits g (space (p.rows, p.n_in_bounds)) p.rows.4 (omega arith) }
+      );
+      fits = numbered_fits g (space (p.rows, p.n_in_bounds)) p.rows.4 (omega arith);
+    }
 
 pub loop-i-preserved : goal.loop-i-preserved
 loop-i-preserved c =

@@ -29,13 +29,16 @@ number_records-requires c =
     let p = c.requires in
     let l = c.list_leaders-m.ensures in
     let o = c.sort_records.ensures in
-    let t = c.settle_leaders.ensures in record { rows = (
+    let t = c.settle_leaders.ensures in record {
+      rows = (
         record { within = p.n_in_bounds.0; wide = p.n_in_bounds.1; some = omega (arith, c.if-n-eq0.false) },
         p.n_in_bounds.2,
         omega (arith, l.beyond.1.long, swaps_length o.1),
         omega (arith, l.beyond.0.long, t.1.long),
         t.0,
-      ); n_in_bounds = p.n_in_bounds_2 }
+      );
+      n_in_bounds = p.n_in_bounds_2;
+    }
 
 pub returns : goal.returns
 returns c =

@@ -1,7 +1,5 @@
 -- `vmd_text::write_decimal` meets its contract: the number falls. Assumes nothing.
-use Rattle.std.proofs.Common.{◌+◌, ◌%◌, ◌<◌, length, slice_set, arith}
-use Rattle.vmd_bytes.specs.Written.{Wrote}
-use Rattle.vmd_text.specs.Text.{decimal}
+use Rattle.std.proofs.Common.{arith}
 use Rattle.vmd_text.proofs.Laws.{decimal_short, digit_one, digit_more}
 use Rattle.vmd_text.proofs.+write_decimal.Goals as goal
 

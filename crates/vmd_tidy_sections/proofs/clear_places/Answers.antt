@@ -3,7 +3,6 @@ use Rattle.vmd_bytes.proofs.Laws.{splice_nil}
 use lib.ListN.{length-set}
 use mathlib.Core.Path.{refl}
 use native.Mathlib.Omega.{arith}
-use Prim.Native.Nat.{◌-◌}
 use Rattle.vmd_tidy_sections.proofs.clear_places.Goals as goal
 
 pub loop-i-init : goal.loop-i-init

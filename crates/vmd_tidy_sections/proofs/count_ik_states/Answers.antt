@@ -4,7 +4,7 @@ use Rattle.vmd_sort.specs.SortLaws.{all_at}
 use lib.ListN.{length}
 use mathlib.Core.Path.{sym, ◌∙◌}
 use native.Mathlib.Omega.{arith}
-use Prim.Native.Nat.{◌-◌, ◌≤◌}
+use Prim.Native.Nat.{◌≤◌}
 use Rattle.vmd_tidy_sections.proofs.count_ik_states.Goals as goal
 
 pub loop-i-init : goal.loop-i-init

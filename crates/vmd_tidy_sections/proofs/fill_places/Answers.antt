@@ -3,7 +3,6 @@ use Rattle.vmd_tidy_sections.specs.WalkLaws.{filled_start, filled_next, filled_t
 use native.Mathlib.Nat.{le_trans}
 use mathlib.Core.Path.{refl}
 use native.Mathlib.Omega.{arith}
-use Prim.Native.Nat.{◌-◌}
 use Rattle.vmd_tidy_sections.proofs.fill_places.Goals as goal
 
 pub loop-i-init : goal.loop-i-init

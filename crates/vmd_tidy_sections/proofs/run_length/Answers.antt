@@ -4,7 +4,7 @@ use Rattle.vmd_sort.specs.Walk.{step}
 use lib.ListN.{length, get_or}
 use mathlib.Core.Path.{◌≡◌, subst}
 use native.Mathlib.Omega.{arith}
-use Prim.Native.Nat.{◌-◌, ◌≤◌, ◌+◌}
+use Prim.Native.Nat.{◌≤◌, ◌+◌}
 use Rattle.vmd_tidy_sections.proofs.run_length.Goals as goal
 
 pub next_place-next-requires : goal.next_place-next-requires

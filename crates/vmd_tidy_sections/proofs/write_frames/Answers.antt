@@ -1,7 +1,6 @@
 use Rattle.vmd_tidy_sections.specs.RunLaws.{left_start, left_end, run_room, run_then, run_frames}
 use Rattle.vmd_tidy_sections.specs.WalkLaws.{frames_reach}
 use native.Mathlib.Omega.{arith}
-use Prim.Native.Nat.{◌-◌}
 use Rattle.vmd_tidy_sections.proofs.write_frames.Goals as goal
 
 pub loop-i-init : goal.loop-i-init

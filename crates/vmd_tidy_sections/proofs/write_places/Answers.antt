@@ -6,7 +6,7 @@ use Rattle.vmd_records.specs.Kinds.{layout, size_of}
 use lib.ListN.{length, get_or, take, drop}
 use mathlib.Core.Path.{◌≡◌, subst}
 use native.Mathlib.Omega.{arith}
-use Prim.Native.Nat.{◌-◌, ◌≤◌}
+use Prim.Native.Nat.{◌≤◌}
 use Rattle.vmd_tidy_sections.proofs.write_places.Goals as goal
 
 pub loop-i-init : goal.loop-i-init
