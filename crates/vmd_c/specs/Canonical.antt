@@ -13,13 +13,13 @@ use Rattle.vmd_laws.specs.JoinLaws.{Fit}
 use Rattle.vmd_laws.specs.OlderLaws.{older_is}
 use Rattle.vmd_laws.specs.SavingLaws.{Accepted, Reads}
 use Rattle.vmd_export.specs.Demand3.{exported, joined, Enough, exported_is, joined_is, export_back_in, join_back_in}
-use Rattle.vmd_export.specs.Older.{converted, OlderEnough, converted_back_in}
+use Rattle.vmd_export.proofs.Older.{converted, OlderEnough, converted_back_in}
 use Rattle.vmd_parts.specs.Building.{Slices, Typed, parts, built_answer, built_file, build_back}
 use Rattle.vmd_tidy.specs.Tidied.{tidied_file}
 use Rattle.vmd_tidy.specs.Tidying as tidying
-use Rattle.vmd_excerpt.specs.Excerpting as excerpting
+use Rattle.vmd_excerpt.proofs.Excerpting as excerpting
 use Rattle.vmd_form.specs.Canonical.{canonical, at_place, first_change}
-use Rattle.vmd_form.specs.CanonicalLaws.{canonical_written, older_change, older_not_canonical, converted_older}
+use Rattle.vmd_form.proofs.CanonicalLaws.{canonical_written, older_change, older_not_canonical, converted_older}
 
 same_file : {s u : List ℕ} → given s ≡ given u → s ≡ u
 same_file e = cc

@@ -15,7 +15,7 @@ use Rattle.vmd_reader.specs.Own.{Calls, own_calls}
 use Rattle.vmd_format.specs.Parts.{take_of_parts}
 use Rattle.vmd_parts.specs.Building.{Slices, Typed, parts, built_answer, built_file, build_back}
 use Rattle.vmd_export.specs.Demand3.{exported, joined, Enough, export_back_in, join_back_in}
-use Rattle.vmd_export.specs.Older.{converted, OlderEnough, converted_back_in}
+use Rattle.vmd_export.proofs.Older.{converted, OlderEnough, converted_back_in}
 use Rattle.vmd_tracks.specs.Tidy.{tidy}
 use Rattle.vmd_tidy.specs.Tidying as tidying
 

@@ -25,12 +25,12 @@ use Rattle.vmd_export.specs.Saved.{exported_answer, exported_output}
 use Rattle.vmd_keys.specs.Names.{distinct, bone_names_of, morph_names_of}
 use Rattle.vmd_tables.specs.Tables.{joined, table_of_names, index_of, name_table, name_indices}
 use Rattle.vmd_count.specs.DistinctLaws.{all_then, all_distinct, distinct_short}
-use Rattle.vmd_tables.specs.TableMeaning.{table_ends_below, index_most}
+use Rattle.vmd_tables.proofs.TableMeaning.{table_ends_below, index_most}
 use Rattle.vmd_take_parts.specs.Columns.{all_of, below_write, below_map, below_all, all_write}
 use Rattle.vmd_take_parts.specs.Split.{translation, rotation, parts_of_take, split, parts_left}
 use Rattle.vmd_take_parts.specs.Passing.{Finite, BoneFit, BuilderPasses}
-use Rattle.vmd_take_parts.specs.Given.{with_model, fronts, split_gives, left_parts}
-use Rattle.vmd_take_parts.specs.Rebuilding.{names_fit, rebuilt}
+use Rattle.vmd_take_parts.proofs.Given.{with_model, fronts, split_gives, left_parts}
+use Rattle.vmd_take_parts.proofs.Rebuilding.{names_fit, rebuilt}
 
 -- ---- the builder's call
 

@@ -6,8 +6,8 @@ use Rattle.vmd_format.specs.Read.{lenient}
 use Rattle.vmd_format.specs.Take.{Take}
 use Rattle.vmd_keys.specs.Names.{bone_names_of, morph_names_of, registration_name, distinct}
 use Rattle.vmd_tracks.specs.Tracks.{tidy_section}
-use Rattle.vmd_tracks.specs.TrackLaws.{names_tidy}
-use Rattle.vmd_tracks.specs.RankedLaws.{map_two}
+use Rattle.vmd_tracks.proofs.TrackLaws.{names_tidy}
+use Rattle.vmd_tracks.proofs.RankedLaws.{map_two}
 use Rattle.vmd_tracks.specs.Tidy.{tidy_by, tidy}
 use Rattle.vmd_season.specs.Season.{figures_of, Season, no_takes, with_file, season_from, season, mean}
 use Rattle.vmd_slots.specs.Meaning.{season_counts, season_figures, section_at, season_at, mean_words}

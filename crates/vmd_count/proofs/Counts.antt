@@ -19,7 +19,7 @@ use Rattle.vmd_keys.specs.declared.VmdCut.TheVariants as cut
 use Rattle.vmd_keys.specs.Names.{name_in, names_in, cut_name, cut_names, distinct}
 use Rattle.vmd_keys.specs.NameLaws.{cut_each}
 use Rattle.vmd_keys.specs.Keys.{top, spot, key}
-use Rattle.vmd_keys.specs.KeyLaws.{cut_good, spot_in, key_tells, key_top}
+use Rattle.vmd_keys.proofs.KeyLaws.{cut_good, spot_in, key_tells, key_top}
 use Rattle.vmd_count.specs.DistinctLaws.{all_then, map_same, member_named, Once, here, there, all_distinct, distinct_short, once_distinct}
 use Rattle.vmd_count.specs.Held.{low, high, name_length, sum_of, name_key, weight_if, sum_below, weight_below, one, Found, Row, Tallied}
 use Rattle.vmd_count.proofs.HeldLaws.{low_none, low_some, high_none, high_some}

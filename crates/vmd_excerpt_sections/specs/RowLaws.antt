@@ -30,7 +30,7 @@ use Rattle.vmd_records.specs.Kinds.{Row, layout, size_of, frame_at}
 use Rattle.vmd_records.specs.KindLaws.{kind_sized}
 use Rattle.vmd_framed.specs.Excerpt.{Framed, property_framed, moved, excerpt_section}
 use Rattle.vmd_excerpt_sections.specs.Rows.{framed, rows, kept_rows, kept_frames, number_if, Stands}
-use Rattle.vmd_framed.specs.ExcerptLaws.{first_kept, first_dropped, section_append, all_kept, none_kept, section_short}
+use Rattle.vmd_framed.proofs.ExcerptLaws.{first_kept, first_dropped, section_append, all_kept, none_kept, section_short}
 use Rattle.vmd_excerpt_sections.specs.FrameLaws.{kind_frame, property_frame, frame_read, refit, refit_after}
 
 -- ---- records one after another

@@ -3,7 +3,5 @@ pub mod Saved
 pub mod Together
 pub mod Demand3
 pub mod Refusals
-pub mod Older
 pub mod Examples
 pub mod Frames
-pub mod Manners

@@ -10,9 +10,6 @@ pub mod Laying
 pub mod LayingLaws
 pub mod StageLaws
 pub mod WholeLaws
-pub mod ChangeLaws
 pub mod RowForms
 pub mod FrameForms
-pub mod FormLaws
-pub mod CanonicalLaws
 pub mod Examples

@@ -1,3 +1,2 @@
 pub mod Excerpt
-pub mod ExcerptLaws
 pub mod Examples

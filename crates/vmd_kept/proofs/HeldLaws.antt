@@ -13,8 +13,9 @@ use Rattle.vmd_keys.specs.Heap.{Swaps, Ascending}
 use Rattle.vmd_keys.specs.HeapLaws.{swaps_length}
 use Rattle.vmd_count.specs.DistinctLaws.{member_all, all_select, select_passed, select_append}
 use Rattle.vmd_tracks.specs.Tracks.{put, lasts}
-use Rattle.vmd_tracks.specs.TrackLaws.{Sorted, keep_true, keep_false, all_map, all_lasts, lasts_sorted, lasts_some}
-use Rattle.vmd_tracks.specs.RankedLaws.{sorted_select}
+use Rattle.vmd_tracks.proofs.TrackLaws.{keep_true, keep_false, all_map, all_lasts, lasts_sorted, lasts_some}
+use Rattle.vmd_tracks.specs.Sorted.{Sorted}
+use Rattle.vmd_tracks.proofs.RankedLaws.{sorted_select}
 use Rattle.vmd_sort.specs.Order.{rank}
 use Rattle.vmd_sort.specs.OrderLaws.{word}
 use Rattle.vmd_sort.specs.SortLaws.{all_at}

@@ -9,7 +9,8 @@ use Rattle.vmd_laws.specs.ReadLaws.{All}
 use Rattle.vmd_keys.specs.Names.{select}
 use Rattle.vmd_count.specs.DistinctLaws.{all_select}
 use Rattle.vmd_tracks.specs.Tracks.{put, put_all, lasts}
-use Rattle.vmd_tracks.specs.TrackLaws.{Test, passed, failed, test, keep_true, keep_false, all_map, put_lt, put_eq, put_gt, Order, before, level, after, order, Sorted, put_sorted, put_all_append}
+use Rattle.vmd_tracks.proofs.TrackLaws.{Test, passed, failed, test, keep_true, keep_false, all_map, put_lt, put_eq, put_gt, Order, before, level, after, order, put_sorted, put_all_append}
+use Rattle.vmd_tracks.specs.Sorted.{Sorted}
 
 module _ {A : Type 0} (f : A → ℕ) where
   put_front : (a : A) (l : List A) → All (λ b. f a < f b) l → put f a l ≡ a ∷ l

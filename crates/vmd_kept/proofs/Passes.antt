@@ -12,7 +12,7 @@ use Rattle.vmd_laws.specs.ReadLaws.{All}
 use Rattle.vmd_laws.specs.BytesLaws.{Bytes}
 use Rattle.vmd_keys.specs.Names.{select}
 use Rattle.vmd_tracks.specs.Tracks.{lasts}
-use Rattle.vmd_tracks.specs.TrackLaws.{select_all, lasts_some}
+use Rattle.vmd_tracks.proofs.TrackLaws.{select_all, lasts_some}
 use Rattle.vmd_sort.specs.Walk.{step, places_by, end_by, states_there, total}
 use Rattle.vmd_kept.specs.Window.{above, between, Holds}
 use Rattle.vmd_kept.proofs.LastsLaws.{select_lasts, lasts_short}

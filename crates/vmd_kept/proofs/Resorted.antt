@@ -13,8 +13,9 @@ use Rattle.vmd_keys.specs.Heap.{Swaps, Ascending}
 use Rattle.vmd_keys.specs.HeapLaws.{swaps_length}
 use Rattle.vmd_count.specs.DistinctLaws.{Member, member_all}
 use Rattle.vmd_tracks.specs.Tracks.{lasts}
-use Rattle.vmd_tracks.specs.TrackLaws.{Sorted, all_map}
-use Rattle.vmd_tracks.specs.RankedLaws.{sorted_is}
+use Rattle.vmd_tracks.proofs.TrackLaws.{all_map}
+use Rattle.vmd_tracks.specs.Sorted.{Sorted}
+use Rattle.vmd_tracks.proofs.RankedLaws.{sorted_is}
 use Rattle.vmd_sort.specs.Order.{rank}
 use Rattle.vmd_sort.specs.Arranged.{Arranged, arranged_swaps, arranged_from, arranged_to, arranged_sorted}
 use Rattle.vmd_sort.specs.SortLaws.{sorted_once, map_at}

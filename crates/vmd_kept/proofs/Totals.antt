@@ -8,7 +8,7 @@ use lib.ListN.{length, get_or, take}
 use lib.Seq.{take-suc}
 use Rattle.vmd_laws.specs.BytesLaws.{Bytes}
 use Rattle.vmd_keys.specs.Names.{select}
-use Rattle.vmd_tracks.specs.TrackLaws.{Test, passed, failed, test, keep_true, keep_false}
+use Rattle.vmd_tracks.proofs.TrackLaws.{Test, passed, failed, test, keep_true, keep_false}
 use Rattle.vmd_sort.specs.Order.{there}
 use Rattle.vmd_sort.specs.OrderLaws.{there_small}
 use Rattle.vmd_sort.specs.Walk.{states_there, total}

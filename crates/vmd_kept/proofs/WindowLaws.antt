@@ -9,7 +9,8 @@ use lib.Dec.{ltb}
 use lib.ListN.{length, get_or, take}
 use Rattle.vmd_count.specs.DistinctLaws.{select_none}
 use Rattle.vmd_keys.specs.Names.{select}
-use Rattle.vmd_tracks.specs.TrackLaws.{Sorted, Test, passed, failed, test, keep_true, keep_false, all_map}
+use Rattle.vmd_tracks.proofs.TrackLaws.{Test, passed, failed, test, keep_true, keep_false, all_map}
+use Rattle.vmd_tracks.specs.Sorted.{Sorted}
 use Rattle.vmd_sort.specs.SortLaws.{all_at}
 use Rattle.vmd_kept.specs.Window.{above, between}
 

@@ -3,7 +3,7 @@ use Rattle.std.specs.Prelude.{ℕ, zero, suc, ◌+◌, ◌-◌, ◌≤◌, ◌<�
 use Rattle.vmd_laws.specs.ReadLaws.{All}
 use Rattle.vmd_keys.specs.Names.{select}
 use Rattle.vmd_tracks.specs.Tracks.{lasts}
-use Rattle.vmd_tracks.specs.TrackLaws.{Sorted}
+use Rattle.vmd_tracks.specs.Sorted.{Sorted}
 
 -- whether a place's key lies above the floor's, and not above the ceiling's. They are a place and 1, or 0 for none.
 unfoldable pub above : (ℕ → ℕ) → ℕ → ℕ → Bool

@@ -1,8 +1,6 @@
 pub mod Names
 pub mod Keys
 pub mod Heap
-pub mod RegistrationLaws
-pub mod KeyLaws
 pub mod HeapLaws
 pub mod NameLaws
 pub mod Examples

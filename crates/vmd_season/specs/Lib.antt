@@ -4,6 +4,4 @@ pub mod Differ
 pub mod Overall
 pub mod Fitting
 pub mod DifferLaws
-pub mod SeasonLaws
-pub mod OverallLaws
 pub mod Examples

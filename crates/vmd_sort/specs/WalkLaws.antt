@@ -7,7 +7,7 @@ use native.Mathlib.Omega.{arith}
 use Rattle.vmd_format.specs.Bytes.{u32}
 use Rattle.vmd_laws.specs.ReadLaws.{All}
 use Rattle.vmd_format.specs.Fetch.{next_frame}
-use Rattle.vmd_tracks.specs.TrackLaws.{Sorted}
+use Rattle.vmd_tracks.specs.Sorted.{Sorted}
 use Rattle.vmd_sort.specs.Walk.{step, places_by, end_by}
 
 -- ---- steps

@@ -21,10 +21,10 @@ use Rattle.vmd_laws.specs.SizedLaws.{camera_sized, light_sized, self_shadow_size
 use Rattle.vmd_keys.specs.Names.{names_in, distinct, bone_names_of, morph_names_of}
 use Rattle.vmd_keys.specs.NameLaws.{bone_names, morph_names}
 use Rattle.vmd_tables.specs.Tables.{joined, table_of_names, name_table, name_indices}
-use Rattle.vmd_tables.specs.TableMeaning.{table_count}
+use Rattle.vmd_tables.proofs.TableMeaning.{table_count}
 use Rattle.vmd_columns.specs.ColumnLaws.{bone_translations, bone_rotations, bone_interpolations, numbers_column_length, run_column_length}
 use Rattle.vmd_take_parts.specs.Split.{translation, rotation, parts_of_take, table_within, table_fits, bones_fit, morphs_fit, records_fit, parts_fit, split, table_sizes, split_answer, parts_left, buffers, split_sizes}
-use Rattle.vmd_take_parts.specs.Given.{frames_size}
+use Rattle.vmd_take_parts.proofs.Given.{frames_size}
 use Rattle.vmd_split.specs.Stages.{table_room, bone_room, morph_room, record_room, table_in, parts_room, bones_in, morphs_in, RecordsLeft, BonesLeft, MorphsLeft}
 use Rattle.vmd_split.proofs.Room.{both}
 

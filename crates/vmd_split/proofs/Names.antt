@@ -12,11 +12,11 @@ use Rattle.vmd_format.specs.Read.{write_all}
 use Rattle.vmd_laws.specs.ReadLaws.{All}
 use Rattle.vmd_format.specs.Parts.{upto}
 use Rattle.vmd_keys.specs.Names.{name_in, names_in, distinct}
-use Rattle.vmd_keys.specs.KeyLaws.{name_short}
+use Rattle.vmd_keys.proofs.KeyLaws.{name_short}
 use Rattle.vmd_count.specs.DistinctLaws.{all_distinct, distinct_short}
 use Rattle.vmd_tables.specs.Tables.{joined, table_of_names, name_table}
-use Rattle.vmd_tables.specs.TableLaws.{names_count}
-use Rattle.vmd_tables.specs.TableMeaning.{table_count}
+use Rattle.vmd_tables.proofs.TableLaws.{names_count}
+use Rattle.vmd_tables.proofs.TableMeaning.{table_count}
 use Rattle.vmd_split.specs.Stages.{table_room}
 use Rattle.vmd_split.proofs.Room.{both}
 

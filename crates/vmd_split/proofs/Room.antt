@@ -19,8 +19,8 @@ use Rattle.vmd_laws.specs.SizedLaws.{Sized, section_length}
 use Rattle.vmd_bytes.specs.Slices.{splice}
 use Rattle.vmd_bytes.specs.Written.{Room, Wrote}
 use Rattle.vmd_take_parts.specs.Split.{table_within, table_fits, over}
-use Rattle.vmd_take_parts.specs.Fitting.{TableFits, table_fits_says}
-use Rattle.vmd_take_parts.specs.Given.{frames_size}
+use Rattle.vmd_take_parts.proofs.Fitting.{TableFits, table_fits_says}
+use Rattle.vmd_take_parts.proofs.Given.{frames_size}
 use Rattle.vmd_split.specs.Stages.{table_room, bone_room, morph_room, record_room}
 
 -- ---- tests

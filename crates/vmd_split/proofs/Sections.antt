@@ -11,13 +11,13 @@ use Rattle.vmd_bytes.specs.Slices.{splice, run}
 use Rattle.vmd_keys.specs.Names.{names_in, distinct}
 use Rattle.vmd_keys.specs.NameLaws.{bone_names, morph_names}
 use Rattle.vmd_tables.specs.Tables.{name_table}
-use Rattle.vmd_tables.specs.TableMeaning.{table_count}
+use Rattle.vmd_tables.proofs.TableMeaning.{table_count}
 use Rattle.vmd_tables.specs.Leading.{Beyond, Numbered}
 use Rattle.vmd_tables.proofs.Numbering.{front_beyond}
 use Rattle.vmd_columns.specs.Columns.{numbers_at, column}
 use Rattle.vmd_columns.specs.ColumnLaws.{bone_frames, bone_translations, bone_rotations, bone_interpolations, morph_frames, morph_weights, numbers_column_length}
 use Rattle.vmd_take_parts.specs.Split.{translation, rotation, over}
-use Rattle.vmd_take_parts.specs.Fitting.{TableFits}
+use Rattle.vmd_take_parts.proofs.Fitting.{TableFits}
 use Rattle.vmd_split.specs.Stages.{BonesLeft, MorphsLeft}
 use Rattle.vmd_split.proofs.Room.{front}
 

@@ -1,2 +1,4 @@
 pub mod Leaders
 pub mod Numbering
+pub mod TableLaws
+pub mod TableMeaning

@@ -13,11 +13,11 @@ use Rattle.vmd_bytes.specs.Slices.{splice, run}
 use Rattle.vmd_bytes.proofs.Laws.{splice_nil, length_splice, splice_append_at, splice_snoc_at, run_all}
 use Rattle.vmd_keys.specs.Names.{name_in, names_in, whole, distinct}
 use Rattle.vmd_keys.specs.Keys.{Rows, key}
-use Rattle.vmd_keys.specs.KeyLaws.{spot_in, spot_room, key_tells, key_same}
+use Rattle.vmd_keys.proofs.KeyLaws.{spot_in, spot_room, key_tells, key_same}
 use Rattle.vmd_count.specs.DistinctLaws.{Member, distinct_short}
 use Rattle.vmd_tables.specs.Tables.{joined, ends_from, table_of_names, index_of, name_table, name_indices}
-use Rattle.vmd_tables.specs.TableLaws.{New, distinct_old, distinct_new, indices_old, indices_new, table_old, table_new, names_one_more, names_count, name_there, name_new, names_upto, bytes_upto, index_at}
-use Rattle.vmd_tables.specs.TableMeaning.{table_count, indices_length}
+use Rattle.vmd_tables.proofs.TableLaws.{New, distinct_old, distinct_new, indices_old, indices_new, table_old, table_new, names_one_more, names_count, name_there, name_new, names_upto, bytes_upto, index_at}
+use Rattle.vmd_tables.proofs.TableMeaning.{table_count, indices_length}
 use Rattle.vmd_tables.specs.Leading.{First, Beyond, Numbered, Step, again, added, Fits}
 
 -- ---- a name added to the table

@@ -1,10 +1,3 @@
 pub mod Split
 pub mod Passing
-pub mod Fitting
 pub mod Columns
-pub mod PartsMean
-pub mod Rebuilding
-pub mod SplitRefusals
-pub mod SplitManners
-pub mod Given
-pub mod Examples

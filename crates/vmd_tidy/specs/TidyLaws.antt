@@ -12,11 +12,11 @@ use Rattle.vmd_format.specs.Join.{join}
 use Rattle.vmd_laws.specs.JoinLaws.{Fit}
 use Rattle.vmd_laws.specs.Lengths.{export_length}
 use Rattle.vmd_tracks.specs.Tracks.{tidy_section, one_track}
-use Rattle.vmd_tracks.specs.TrackLaws.{tidy_section_twice, tidy_section_join, all_tidy}
-use Rattle.vmd_tracks.specs.DroppedLaws.{sum_over, made_up, kept_and_dropped}
+use Rattle.vmd_tracks.proofs.TrackLaws.{tidy_section_twice, tidy_section_join, all_tidy}
+use Rattle.vmd_tracks.proofs.DroppedLaws.{sum_over, made_up, kept_and_dropped}
 use Rattle.vmd_keys.specs.Names.{registration_name}
 use Rattle.vmd_count.specs.DistinctLaws.{Member}
-use Rattle.vmd_tracks.specs.RankedLaws.{members}
+use Rattle.vmd_tracks.proofs.RankedLaws.{members}
 use Rattle.vmd_tracks.specs.Tidy.{tidy_by, tidy}
 use Rattle.vmd_tidy.specs.Tidied.{Counts, counts_of, dropped_by, tidied_file}
 

@@ -14,11 +14,11 @@ use Rattle.vmd_format.specs.Opening.{Extent, ik_total}
 use Rattle.vmd_laws.specs.PlacesLaws.{property_in, table_length}
 use Rattle.vmd_keys.specs.Names.{track_in, to_line_feed}
 use Rattle.vmd_keys.specs.Keys.{key_of, worth, top}
-use Rattle.vmd_keys.specs.KeyLaws.{pack_first, pack_second, worth_tells, cut_good}
+use Rattle.vmd_keys.proofs.KeyLaws.{pack_first, pack_second, worth_tells, cut_good}
 use Rattle.vmd_count.specs.DistinctLaws.{same_refl, Names, equal, apart, names}
 use Rattle.vmd_tracks.specs.Tracks.{lasts, tidy_section, same_slot}
-use Rattle.vmd_tracks.specs.TrackLaws.{all_map}
-use Rattle.vmd_tracks.specs.DroppedLaws.{kept_by_number, lasts_lost}
+use Rattle.vmd_tracks.proofs.TrackLaws.{all_map}
+use Rattle.vmd_tracks.proofs.DroppedLaws.{kept_by_number, lasts_lost}
 use Rattle.vmd_records.specs.declared.VmdKind.{VmdKind}
 use Rattle.vmd_records.specs.Kinds.{layout}
 use Rattle.vmd_sort.specs.Order.{there, both}

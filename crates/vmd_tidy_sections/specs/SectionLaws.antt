@@ -21,9 +21,9 @@ use Rattle.vmd_records.specs.Kinds.{Row, layout, size_of, frame_at}
 use Rattle.vmd_records.specs.KindLaws.{kind_sized}
 use Rattle.vmd_keys.specs.Names.{name_in}
 use Rattle.vmd_tracks.specs.Tracks.{lasts, tidy_section, one_track}
-use Rattle.vmd_tracks.specs.TrackLaws.{all_tidy, all_map, tidy_one, all_lasts}
-use Rattle.vmd_tracks.specs.RankedLaws.{lasts_shift, lasts_map}
-use Rattle.vmd_tracks.specs.MapLaws.{tidy_section_map, tidy_section_alike}
+use Rattle.vmd_tracks.proofs.TrackLaws.{all_tidy, all_map, tidy_one, all_lasts}
+use Rattle.vmd_tracks.proofs.RankedLaws.{lasts_shift, lasts_map}
+use Rattle.vmd_tracks.proofs.MapLaws.{tidy_section_map, tidy_section_alike}
 use Rattle.vmd_sort.specs.Order.{there}
 use Rattle.vmd_sort.specs.OrderLaws.{there_in}
 use Rattle.vmd_sort.specs.Walk.{step, places_by, end_by, states_there, total}

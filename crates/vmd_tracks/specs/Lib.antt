@@ -1,9 +1,5 @@
 pub mod Tracks
-pub mod TrackLaws
-pub mod DroppedLaws
-pub mod Original
+pub mod Sorted
 pub mod Ranked
-pub mod RankedLaws
-pub mod MapLaws
 pub mod Tidy
 pub mod Examples

@@ -1,6 +1,6 @@
 -- `vmd_canonical::is_canonical_file` meets its contract. Assumes nothing.
 use mathlib.Core.Path.{sym, ap, ◌∙◌}
-use Rattle.vmd_form.specs.ChangeLaws.{is_nowhere, canonical_change}
+use Rattle.vmd_form.proofs.ChangeLaws.{is_nowhere, canonical_change}
 use Rattle.vmd_base.specs.Meaning.{manner_of}
 use Rattle.vmd_format.specs.Answer.{map_answer}
 use Rattle.vmd_canonical.specs.Meaning.{change_answer}

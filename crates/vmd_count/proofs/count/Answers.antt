@@ -1,7 +1,7 @@
 use mathlib.Core.Path.{refl}
 use native.Mathlib.Omega.{arith}
 use lib.ListN.{length}
-use Rattle.vmd_keys.specs.KeyLaws.{key_top}
+use Rattle.vmd_keys.proofs.KeyLaws.{key_top}
 use Rattle.vmd_keys.specs.Keys.{key}
 use Rattle.vmd_laws.specs.BytesLaws.{Bytes}
 use Rattle.vmd_count.proofs.Counts.{names_most, bytes_most, count_start, count_more, count_end}

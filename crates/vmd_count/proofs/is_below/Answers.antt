@@ -1,6 +1,6 @@
 -- `vmd_count::is_below` meets its contract. Assumes nothing.
 use native.Mathlib.Omega.{arith}
-use Rattle.vmd_keys.specs.KeyLaws.{key_top}
+use Rattle.vmd_keys.proofs.KeyLaws.{key_top}
 use Rattle.vmd_keys.specs.Keys.{key}
 use Rattle.vmd_count.proofs.HeldLaws.{below_none, below_some}
 use Rattle.vmd_count.proofs.is_below.Goals as goal

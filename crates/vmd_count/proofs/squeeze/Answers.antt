@@ -1,7 +1,7 @@
 -- `vmd_count::squeeze` meets its contract. Assumes nothing.
 use mathlib.Core.Path.{refl}
 use native.Mathlib.Omega.{arith}
-use Rattle.vmd_keys.specs.KeyLaws.{rank_key}
+use Rattle.vmd_keys.proofs.KeyLaws.{rank_key}
 use Rattle.vmd_keys.specs.Keys.{key}
 use Rattle.vmd_count.proofs.HeldLaws.{sorted_row, row_holds, row_cut_at}
 use Rattle.vmd_count.proofs.squeeze.Goals as goal

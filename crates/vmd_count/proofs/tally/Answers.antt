@@ -1,6 +1,6 @@
 -- `vmd_count::tally` meets its contract. Assumes nothing.
 use native.Mathlib.Omega.{arith}
-use Rattle.vmd_keys.specs.KeyLaws.{rank_key, key_top}
+use Rattle.vmd_keys.proofs.KeyLaws.{rank_key, key_top}
 use Rattle.vmd_keys.specs.Keys.{key}
 use Rattle.vmd_laws.specs.BytesLaws.{Bytes}
 use Rattle.vmd_count.proofs.Counts.{row_names, row_bytes}

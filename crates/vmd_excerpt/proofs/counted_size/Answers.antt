@@ -3,7 +3,7 @@ use mathlib.Core.Path.{ap, ◌∙◌}
 use Rattle.vmd_scan.specs.Meaning.{scan_is}
 use Rattle.vmd_laws.specs.InsideLaws.{inside_reaches}
 use Rattle.vmd_format.specs.Answer.{within}
-use Rattle.vmd_excerpt.specs.StageLaws.{count_sizes}
+use Rattle.vmd_excerpt.proofs.StageLaws.{count_sizes}
 use Rattle.vmd_excerpt.proofs.counted_size.Goals as goal
 
 pub count_records-bones-requires : goal.count_records-bones-requires

@@ -4,7 +4,7 @@ use Rattle.vmd_scan.specs.Meaning.{scan_answer}
 use Rattle.vmd_output.proofs.Saves.{heard, same_saved, saves_nothing}
 use Rattle.vmd_laws.specs.ExportLaws.{scan_scanned}
 use Rattle.vmd_base.specs.Meaning.{manner_of}
-use Rattle.vmd_excerpt.specs.StageLaws.{file_above, file_refused, file_scanned}
+use Rattle.vmd_excerpt.proofs.StageLaws.{file_above, file_refused, file_scanned}
 use Rattle.vmd_excerpt.proofs.excerpt_file.Goals as goal
 
 pub returns-then-last-first : goal.returns-then-last-first

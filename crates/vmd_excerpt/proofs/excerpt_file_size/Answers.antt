@@ -7,7 +7,7 @@ use Rattle.vmd_output.proofs.Saves.{heard, refused_answer, given_answer}
 use Rattle.vmd_laws.specs.ExportLaws.{scan_scanned}
 use Rattle.vmd_format.specs.Answer.{map_answer, fitted}
 use Rattle.vmd_base.specs.Meaning.{manner_of}
-use Rattle.vmd_excerpt.specs.StageLaws.{bytes, file_above, file_refused, file_scanned}
+use Rattle.vmd_excerpt.proofs.StageLaws.{bytes, file_above, file_refused, file_scanned}
 use Rattle.vmd_excerpt.proofs.excerpt_file_size.Goals as goal
 
 pub returns-then-last-first : goal.returns-then-last-first

@@ -3,7 +3,7 @@ use mathlib.Core.Path.{refl, sym}
 use Rattle.vmd_scan.specs.Meaning.{scan_is}
 use Rattle.vmd_output.proofs.Saves.{heard, saves_over, saves_room}
 use Rattle.vmd_output.specs.Meaning.{written_answer}
-use Rattle.vmd_excerpt.specs.StageLaws.{bytes, export_room}
+use Rattle.vmd_excerpt.proofs.StageLaws.{bytes, export_room}
 use Rattle.vmd_excerpt.proofs.excerpt_scanned.Goals as goal
 
 pub write_excerpt-requires : goal.write_excerpt-requires

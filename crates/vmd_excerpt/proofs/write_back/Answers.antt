@@ -3,7 +3,7 @@ use mathlib.Core.List.{◌++◌}
 use Rattle.vmd_scan.specs.Meaning.{scan_is}
 use Rattle.vmd_laws.specs.InsideLaws.{inside_reaches}
 use Rattle.vmd_bytes.proofs.Writes.{rest_room, rest_then, rest_done}
-use Rattle.vmd_excerpt.specs.StageLaws.{back_rest}
+use Rattle.vmd_excerpt.proofs.StageLaws.{back_rest}
 use Rattle.vmd_excerpt.specs.Stages.{shadow_bytes, frame_bytes}
 use Rattle.vmd_excerpt.proofs.write_back.Goals as goal
 

@@ -3,7 +3,7 @@ use mathlib.Core.List.{◌++◌}
 use Rattle.vmd_scan.specs.Meaning.{scan_is}
 use Rattle.vmd_output.proofs.Saves.{saves_wrote}
 use Rattle.vmd_bytes.proofs.Writes.{rest_room, rest_then, rest_done}
-use Rattle.vmd_excerpt.specs.StageLaws.{file_rest}
+use Rattle.vmd_excerpt.proofs.StageLaws.{file_rest}
 use Rattle.vmd_excerpt.specs.Stages.{front_bytes, back_bytes}
 use Rattle.vmd_excerpt.proofs.write_excerpt.Goals as goal
 

@@ -2,7 +2,7 @@
 use mathlib.Core.List.{◌++◌}
 use Rattle.vmd_scan.specs.Meaning.{scan_is}
 use Rattle.vmd_bytes.proofs.Writes.{rest_room, rest_then, rest_done}
-use Rattle.vmd_excerpt.specs.StageLaws.{front_rest}
+use Rattle.vmd_excerpt.proofs.StageLaws.{front_rest}
 use Rattle.vmd_excerpt.specs.Stages.{morph_bytes, camera_bytes}
 use Rattle.vmd_excerpt.proofs.write_front.Goals as goal
 

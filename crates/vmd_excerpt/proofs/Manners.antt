@@ -10,7 +10,7 @@ use Rattle.vmd_laws.specs.MannerLaws.{Stricter, same, of_reading}
 use Rattle.vmd_laws.specs.RefusalLaws.{Refuses}
 use Rattle.vmd_framed.specs.Excerpt.{excerpt}
 use Rattle.vmd_excerpt.specs.Excerpted.{excerpt_file, excerpted_answer, excerpted_output, excerpt_size}
-use Rattle.vmd_excerpt.specs.Excerpting.{excerpted, Enough, excerpted_back_in, excerpt_is_in_order, excerpt_refuses}
+use Rattle.vmd_excerpt.proofs.Excerpting.{excerpted, Enough, excerpted_back_in, excerpt_is_in_order, excerpt_refuses}
 
 -- the call: its answer, and what it leaves in the output
 pub stricter_excerpt : (first last : ℕ) (s out : List ℕ)

@@ -17,12 +17,12 @@ use Rattle.vmd_laws.specs.Lengths.{property_length}
 use Rattle.vmd_format.specs.Parts.{Parts}
 use Rattle.vmd_keys.specs.Names.{distinct, bone_names_of, morph_names_of}
 use Rattle.vmd_tables.specs.Tables.{name_table}
-use Rattle.vmd_tables.specs.TableMeaning.{table_count}
+use Rattle.vmd_tables.proofs.TableMeaning.{table_count}
 use Rattle.vmd_take_parts.specs.Split.{translation, rotation, parts_of_take, table_within, parts_fit, split, TableSizes, table_sizes, split_answer, parts_left, split_sizes}
-use Rattle.vmd_take_parts.specs.Fitting.{and_says, table_within_says, PartsFit, parts_fit_says}
+use Rattle.vmd_take_parts.proofs.Fitting.{and_says, table_within_says, PartsFit, parts_fit_says}
 use Rattle.vmd_take_parts.specs.Columns.{write_length, records_length}
-use Rattle.vmd_take_parts.specs.PartsMean.{translations_wide, rotations_wide, interpolations_wide, bone_count, morph_count}
-use Rattle.vmd_take_parts.specs.SplitRefusals.{split_then_fits}
+use Rattle.vmd_take_parts.proofs.PartsMean.{translations_wide, rotations_wide, interpolations_wide, bone_count, morph_count}
+use Rattle.vmd_take_parts.proofs.SplitRefusals.{split_then_fits}
 
 -- ---- which parts
 

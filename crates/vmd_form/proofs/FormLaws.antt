@@ -22,7 +22,7 @@ use Rattle.vmd_laws.specs.PlacesLaws.{frames_in}
 use Rattle.vmd_laws.specs.Rewriting.{light_rewrites, self_shadow_rewrites}
 use Rattle.vmd_laws.specs.SizedLaws.{Sized, bone_sized, morph_sized, camera_sized, light_sized, self_shadow_sized}
 use Rattle.vmd_laws.specs.WalkLaws.{walk_passed}
-use Rattle.vmd_form.specs.ChangeLaws.{same_is}
+use Rattle.vmd_form.proofs.ChangeLaws.{same_is}
 use Rattle.vmd_form.specs.Compare.{agrees, compare_at}
 use Rattle.vmd_form.specs.CompareLaws.{compared_stands, stands_compared, next_agrees}
 use Rattle.vmd_form.specs.FieldLaws.{name_agrees, agrees_zeros}

@@ -9,7 +9,7 @@ use Rattle.vmd_format.specs.Take.{same}
 use Rattle.vmd_keys.specs.Names.{keep_if, select, distinct}
 use Rattle.vmd_count.specs.DistinctLaws.{all_select}
 use Rattle.vmd_tracks.specs.Tracks.{lasts, track, lay, tidy_section}
-use Rattle.vmd_tracks.specs.RankedLaws.{lasts_map, lasts_shift, map_two}
+use Rattle.vmd_tracks.proofs.RankedLaws.{lasts_map, lasts_shift, map_two}
 
 module _ {A B : Type 0} (h : A → B) where
   select_map : (t : B → Bool) (l : List A) → select t (map h l) ≡ map h (select (λ a. t (h a)) l)

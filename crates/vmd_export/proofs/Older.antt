@@ -14,7 +14,8 @@ use Rattle.vmd_format.specs.Join.{older_file}
 use Rattle.vmd_laws.specs.SavingLaws.{Accepted, Reads}
 use Rattle.vmd_laws.specs.OlderLaws.{header_first, same_sections, ten_shorter, widened_written, older_is, older_fits, older_accepted}
 use Rattle.vmd_export.specs.Saved.{older_answer, older_output}
-use Rattle.vmd_export.specs.Refusals.{older_in_order, older_is_in_order}
+use Rattle.vmd_export.specs.Refusals.{older_in_order}
+use Rattle.vmd_export.proofs.RefusalLaws.{older_is_in_order}
 use Rattle.vmd_export.specs.Demand3.{exported, Enough, exported_is}
 
 -- the file that the call leaves in an output

@@ -13,7 +13,7 @@ use Rattle.vmd_format.specs.Parts.{names_of, frames, frames_or_none, properties_
 use Rattle.vmd_keys.specs.Names.{bone_names_of, morph_names_of}
 use Rattle.vmd_tables.specs.Tables.{name_table, name_indices}
 use Rattle.vmd_count.specs.DistinctLaws.{all_then}
-use Rattle.vmd_tables.specs.TableMeaning.{Tabled, tabled, indices_length, index_leads}
+use Rattle.vmd_tables.proofs.TableMeaning.{Tabled, tabled, indices_length, index_leads}
 use Rattle.vmd_take_parts.specs.Split.{translation, rotation, parts_of_take}
 use Rattle.vmd_take_parts.specs.Columns.{all_of, getD_seam, numbered, Wide, part_there, place_there, first_there, records_back, values_back}
 

@@ -11,7 +11,7 @@ use Rattle.vmd_laws.specs.SavingLaws.{Accepted, Reads}
 use Rattle.vmd_laws.specs.MannerLaws.{Stricter, of_reading, of_readings}
 use Rattle.vmd_export.specs.Saved.{exported_answer, exported_output, older_answer, older_output, joined_answer, joined_output, export_size, older_size, join_size}
 use Rattle.vmd_export.specs.Demand3.{exported, joined, Enough, two_exports_alike, export_back, export_back_in, join_back, join_back_in, join_with_empty, three_joined}
-use Rattle.vmd_export.specs.Older.{converted, OlderEnough, converted_back_in}
+use Rattle.vmd_export.proofs.Older.{converted, OlderEnough, converted_back_in}
 
 -- ---- "The laws of saving and joining hold in each manner over the files it accepts."
 

@@ -7,7 +7,7 @@ use native.Mathlib.Omega.{arith}
 use Rattle.std.proofs.Math.Decide.{ℕ_discrete}
 use Rattle.std.proofs.lemmas.Bool.{lt-leb}
 use Rattle.vmd_tracks.specs.Tracks.{put, put_all, lasts}
-use Rattle.vmd_tracks.specs.TrackLaws.{Order, before, level, after, order, put_lt, put_eq, put_gt}
+use Rattle.vmd_tracks.proofs.TrackLaws.{Order, before, level, after, order, put_lt, put_eq, put_gt}
 
 -- ---- the original
 

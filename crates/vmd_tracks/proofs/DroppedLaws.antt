@@ -14,7 +14,7 @@ use Rattle.vmd_format.specs.Take.{same}
 use Rattle.vmd_keys.specs.Names.{keep_if, select, distinct}
 use Rattle.vmd_count.specs.DistinctLaws.{same_refl, Names, equal, apart, names, all_select, select_passed, select_none}
 use Rattle.vmd_tracks.specs.Tracks.{put, put_all, lasts, track, lay, tidy_section, any, same_slot, dropped}
-use Rattle.vmd_tracks.specs.TrackLaws.{same_sym, never, Test, passed, failed, test, all_map, select_weaker, put_over, put_comm, put_past, all_put_all, put_lt, put_gt, Order, before, level, after, order}
+use Rattle.vmd_tracks.proofs.TrackLaws.{same_sym, never, Test, passed, failed, test, all_map, select_weaker, put_over, put_comm, put_past, all_put_all, put_lt, put_gt, Order, before, level, after, order}
 
 module _ {A : Type 0} where
   any_none : (f : A → Bool) (l : List A) → any f l ≡ false → All (λ a. f a ≡ false) l

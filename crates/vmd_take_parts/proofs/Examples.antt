@@ -11,7 +11,7 @@ use Rattle.vmd_format.specs.Computed.{computed, declines, start, fours, u0, u1, 
 use Rattle.vmd_keys.specs.Names.{keep_if, select, distinct, bone_names_of, morph_names_of}
 use Rattle.vmd_tables.specs.Tables.{joined, ends_from, table_of_names, index_if, index_of, name_table, name_indices}
 use Rattle.vmd_take_parts.specs.Split.{translation, rotation, parts_of_take, table_within, table_fits, bones_fit, morphs_fit, records_fit, parts_fit, split, TableSizes, table_sizes, split_answer, parts_left, buffers, split_sizes}
-use Rattle.vmd_take_parts.specs.Given.{by_field, fronts, tails}
+use Rattle.vmd_take_parts.proofs.Given.{by_field, fronts, tails}
 
 -- unfolding this and `computed` unfolds the definitions of parts
 unfoldable parts_computed : Unit {0}

@@ -21,7 +21,7 @@ use Rattle.vmd_output.proofs.Saves.{saves_room}
 use Rattle.vmd_records.specs.declared.VmdKind.TheVariants as kind
 use Rattle.vmd_framed.specs.Excerpt.{excerpt}
 use Rattle.vmd_excerpt.specs.Excerpted.{excerpt_file}
-use Rattle.vmd_framed.specs.ExcerptLaws.{never_longer}
+use Rattle.vmd_framed.proofs.ExcerptLaws.{never_longer}
 use Rattle.vmd_excerpt_sections.specs.Rows.{kept_rows, kept_frames}
 use Rattle.vmd_excerpt.specs.Stages.{bone_bytes, morph_bytes, camera_bytes, light_bytes, shadow_bytes, frame_bytes, front_bytes, back_bytes}
 

@@ -26,12 +26,12 @@ use Rattle.vmd_laws.specs.PartsLaws.{all_map, each_mapped, next_passes, need_pas
 use Rattle.vmd_keys.specs.Names.{distinct, bone_names_of, morph_names_of}
 use Rattle.vmd_tables.specs.Tables.{name_table, name_indices}
 use Rattle.vmd_count.specs.DistinctLaws.{all_then, all_distinct}
-use Rattle.vmd_tables.specs.TableMeaning.{distinct_all, table_names, table_right_ends, index_in_table}
+use Rattle.vmd_tables.proofs.TableMeaning.{distinct_all, table_names, table_right_ends, index_in_table}
 use Rattle.vmd_take_parts.specs.Split.{translation, rotation, parts_of_take}
 use Rattle.vmd_take_parts.specs.Passing.{Good, Finite, CameraFit, LightFit, SelfShadowFit, PropertyFit, BuilderPasses}
-use Rattle.vmd_take_parts.specs.Fitting.{and_says, le_says}
+use Rattle.vmd_take_parts.proofs.Fitting.{and_says, le_says}
 use Rattle.vmd_take_parts.specs.Columns.{all_front, all_back, getD_seam, numbered, write_length, part_there, records_whole}
-use Rattle.vmd_take_parts.specs.PartsMean.{translations_wide, rotations_wide, interpolations_wide, bone_count, morph_count, frames_back, parts_mean}
+use Rattle.vmd_take_parts.proofs.PartsMean.{translations_wide, rotations_wide, interpolations_wide, bone_count, morph_count, frames_back, parts_mean}
 
 -- ---- what the builder asks of a take, as checks in the builder's order
 

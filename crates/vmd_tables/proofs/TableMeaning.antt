@@ -14,7 +14,7 @@ use Rattle.vmd_format.specs.Parts.{NameTable, names_from, names_of, ends_right, 
 use Rattle.vmd_keys.specs.Names.{keep_if, select, distinct}
 use Rattle.vmd_count.specs.DistinctLaws.{same_refl, Names, equal, apart, names, all_select, select_passed, Member, all_members, member_all, apart_from, all_distinct}
 use Rattle.vmd_tables.specs.Tables.{joined, ends_from, table_of_names, index_if, index_of, name_table, name_indices}
-use Rattle.vmd_tables.specs.TableLaws.{member_distinct, index_tells, at_map, ends_length}
+use Rattle.vmd_tables.proofs.TableLaws.{member_distinct, index_tells, at_map, ends_length}
 
 -- ---- the names that a table holds, and its ends
 

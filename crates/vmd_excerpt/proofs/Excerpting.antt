@@ -24,7 +24,7 @@ use Rattle.vmd_export.specs.Demand3.{exported, exported_is, joined, joined_is}
 use Rattle.vmd_export.specs.Demand3 as saving
 use Rattle.vmd_framed.specs.Excerpt.{excerpt}
 use Rattle.vmd_excerpt.specs.Excerpted.{excerpt_file, excerpted_answer, excerpted_output, excerpt_size}
-use Rattle.vmd_framed.specs.ExcerptLaws.{name_only, excerpt_join, excerpt_fit, excerpt_well_formed, excerpt_whole, excerpt_twice, excerpt_none, never_longer}
+use Rattle.vmd_framed.proofs.ExcerptLaws.{name_only, excerpt_join, excerpt_fit, excerpt_well_formed, excerpt_whole, excerpt_twice, excerpt_none, never_longer}
 
 -- ---- definitions
 

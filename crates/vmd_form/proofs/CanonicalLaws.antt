@@ -16,11 +16,11 @@ use Rattle.vmd_laws.specs.RefusalLaws.{Refuses, reading_numbers, reading_refuses
 use Rattle.vmd_laws.specs.SavingLaws.{Accepted, well_formed, export_is}
 use Rattle.vmd_laws.specs.TakeLaws.{WellFormed, take_small, take_back}
 use Rattle.vmd_form.specs.Canonical.{canonical, Change, nowhere, at_place, change_if, change_from, first_change}
-use Rattle.vmd_form.specs.ChangeLaws.{is_nowhere, canonical_change, same_is, FirstDifference, difference_found}
+use Rattle.vmd_form.proofs.ChangeLaws.{is_nowhere, canonical_change, same_is, FirstDifference, difference_found}
 use Rattle.vmd_form.specs.Compare.{Compared, agrees, differs, compare_at, change_at, change_over}
 use Rattle.vmd_form.specs.CompareLaws.{compared_stands}
 use Rattle.vmd_form.specs.Form.{Form}
-use Rattle.vmd_form.specs.FormLaws.{whole_form}
+use Rattle.vmd_form.proofs.FormLaws.{whole_form}
 use Rattle.vmd_form.specs.LayingLaws.{scanned_from}
 use Rattle.vmd_form.specs.WholeLaws.{scanned_change}
 

@@ -1,0 +1,3 @@
+pub mod Excerpting
+pub mod Manners
+pub mod StageLaws

@@ -1,0 +1,3 @@
+pub mod ChangeLaws
+pub mod CanonicalLaws
+pub mod FormLaws
