@@ -16,7 +16,7 @@ ghost use Rattle.vmd_scan.specs.Meaning.{scan_is};
 ghost use Rattle.vmd_form.specs.Canonical.{canonical, first_change};
 ghost use Rattle.vmd_form.specs.Compare.{compare_at, and_next, change_at};
 ghost use Rattle.vmd_form.specs.Laying.{Laid, HeaderRead, ScannedFrom, Reached, section_bytes, frames_bytes};
-ghost use Rattle.vmd_form.specs.WholeLaws.{front_bytes, back_bytes};
+ghost use Rattle.vmd_form.specs.Whole.{front_bytes, back_bytes};
 ghost use Rattle.vmd_compare.specs.Meaning.{compared_is};
 ghost use Rattle.vmd_canonical.specs.Meaning.{canonical_answer, change_answer};
 

@@ -22,7 +22,7 @@ use Rattle.vmd_form.specs.CompareLaws.{compared_stands}
 use Rattle.vmd_form.specs.Form.{Form}
 use Rattle.vmd_form.proofs.FormLaws.{whole_form}
 use Rattle.vmd_form.specs.LayingLaws.{scanned_from}
-use Rattle.vmd_form.specs.WholeLaws.{scanned_change}
+use Rattle.vmd_form.proofs.WholeLaws.{scanned_change}
 
 -- ---- the form
 

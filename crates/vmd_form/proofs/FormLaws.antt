@@ -35,7 +35,8 @@ use Rattle.vmd_form.specs.RowLaws.{named_length, camera_length, bone_rows, morph
 use Rattle.vmd_form.specs.RowLaws as row
 use Rattle.vmd_form.specs.Rows.{rows, named_row, camera_row}
 use Rattle.vmd_form.specs.StageLaws.{both_agree, count_found, counted_bytes, counted_frames, section_stands}
-use Rattle.vmd_form.specs.WholeLaws.{magic_bytes, header_bytes, newer_places, magic_newer, header_agrees, front_bytes, back_bytes, file_bytes}
+use Rattle.vmd_form.proofs.WholeLaws.{magic_bytes, header_bytes, newer_places, magic_newer, header_agrees, file_bytes}
+use Rattle.vmd_form.specs.Whole.{front_bytes, back_bytes}
 
 -- ---- a section that stands: its count is there, and then its records stand
 

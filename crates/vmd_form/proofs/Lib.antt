@@ -1,3 +1,4 @@
 pub mod ChangeLaws
 pub mod CanonicalLaws
 pub mod FormLaws
+pub mod WholeLaws

@@ -9,7 +9,7 @@ pub mod FrameLaws
 pub mod Laying
 pub mod LayingLaws
 pub mod StageLaws
-pub mod WholeLaws
+pub mod Whole
 pub mod RowForms
 pub mod FrameForms
 pub mod Examples

@@ -1,5 +1,5 @@
 -- `vmd_canonical::compare_back` meets its contract. Assumes nothing.
-use Rattle.vmd_form.specs.WholeLaws.{back_bytes}
+use Rattle.vmd_form.specs.Whole.{back_bytes}
 use Rattle.vmd_form.specs.StageLaws.{compare_three, reached_shadows, reached_properties}
 use Rattle.vmd_laws.specs.WalkLaws.{walk_passed}
 use Rattle.vmd_canonical.proofs.compare_back.Goals as goal

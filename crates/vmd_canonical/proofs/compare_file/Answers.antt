@@ -1,5 +1,5 @@
 -- `vmd_canonical::compare_file` meets its contract. Assumes nothing.
-use Rattle.vmd_form.specs.WholeLaws.{header_reached, front_reached, whole_compared}
+use Rattle.vmd_form.proofs.WholeLaws.{header_reached, front_reached, whole_compared}
 use Rattle.vmd_scan.specs.Meaning.{scan_is}
 use Rattle.vmd_canonical.proofs.compare_file.Goals as goal
 

@@ -1,5 +1,5 @@
 -- `vmd_canonical::compare_front` meets its contract. Assumes nothing.
-use Rattle.vmd_form.specs.WholeLaws.{front_bytes}
+use Rattle.vmd_form.specs.Whole.{front_bytes}
 use Rattle.vmd_form.specs.StageLaws.{compare_three, reached_morphs, reached_cameras}
 use Rattle.vmd_canonical.proofs.compare_front.Goals as goal
 

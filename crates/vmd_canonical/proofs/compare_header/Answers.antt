@@ -1,7 +1,7 @@
 -- `vmd_canonical::compare_header` meets its contract. Assumes nothing.
 use mathlib.Core.Path.{sym, ap, ◌∙◌}
 use Rattle.vmd_compare.specs.Meaning.{compared_is}
-use Rattle.vmd_form.specs.WholeLaws.{magic_newer, header_agrees, header_differs}
+use Rattle.vmd_form.proofs.WholeLaws.{magic_newer, header_agrees, header_differs}
 use Rattle.vmd_format.specs.Take.{magic}
 use Rattle.vmd_canonical.proofs.compare_header.Goals as goal
 

@@ -1,7 +1,7 @@
 -- `vmd_canonical::first_file_change` meets its contract. Assumes nothing.
 use mathlib.Core.Path.{sym, ap, ◌∙◌}
 use lib.ListN.{length}
-use Rattle.vmd_form.specs.WholeLaws.{refused_change, scanned_change}
+use Rattle.vmd_form.proofs.WholeLaws.{refused_change, scanned_change}
 use Rattle.vmd_form.specs.LayingLaws.{scanned_from}
 use Rattle.vmd_form.specs.Compare.{change_at}
 use Rattle.vmd_scan.specs.Meaning.{scan_answer}

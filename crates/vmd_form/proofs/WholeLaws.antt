@@ -10,7 +10,7 @@ use Rattle.vmd_format.specs.Bytes.{padded}
 use Rattle.vmd_format.specs.Refusal.{Refusal, file_ends_early}
 use Rattle.vmd_format.specs.Answer.{declined, given, map_answer, unless}
 use Rattle.vmd_format.specs.Read.{Manner}
-use Rattle.vmd_format.specs.Records.{bone, morph, camera, light, self_shadow}
+use Rattle.vmd_format.specs.Records.{bone, morph, camera}
 use Rattle.vmd_format.specs.Take.{magic, newer, edition, same, magic_of, take_of, write_header, write_sections, write_edition, write_take}
 use Rattle.vmd_format.specs.Opening.{Scan}
 use Rattle.vmd_format.specs.Fetch.{model_of}
@@ -22,8 +22,9 @@ use Rattle.vmd_laws.specs.ScanLaws.{file_in, headed, edition_newer, header_known
 use Rattle.vmd_form.specs.Canonical.{first_change}
 use Rattle.vmd_form.specs.Compare.{Compared, agrees, differs, compare_at, and_next, change_at}
 use Rattle.vmd_form.specs.CompareLaws.{compared_stands, compare_next, next_agrees, next_differs, change_compared}
-use Rattle.vmd_form.specs.Laying.{Laid, HeaderRead, ScannedFrom, Reached, section_bytes, frames_bytes}
+use Rattle.vmd_form.specs.Laying.{Laid, HeaderRead, ScannedFrom, Reached, section_bytes}
 use Rattle.vmd_form.specs.StageLaws.{both_agree, compare_more, reached_lights}
+use Rattle.vmd_form.specs.Whole.{front_bytes, back_bytes}
 use Rattle.vmd_form.specs.Rows.{name_field}
 
 -- ---- the header
@@ -89,13 +90,6 @@ header_reached {s} {x} c b f q e =
     (omega (arith, n.sections, n.long, z), subst (λ (i : ℕ). Laid 111 s i x.bones) z c.laid.bones)
 
 -- ---- the whole
-
--- the first three sections, and the others
-unfoldable pub front_bytes : List ℕ → Scan → List ℕ
-front_bytes s x = section_bytes bone s x.bones ++ (section_bytes morph s x.morphs ++ section_bytes camera s x.cameras)
-
-unfoldable pub back_bytes : List ℕ → Scan → List ℕ
-back_bytes s x = section_bytes light s x.lights ++ (section_bytes self_shadow s x.self_shadows ++ frames_bytes s x.properties)
 
 pub file_bytes : (s : List ℕ) (x : Scan) → write_take (take_in s x) ≡ write_header newer (model_of s) ++ (front_bytes s x ++ back_bytes s x)
 unfolding write_take write_edition write_sections front_bytes back_bytes take_in take_of file_in section_in
