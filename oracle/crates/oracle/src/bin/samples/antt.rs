@@ -131,36 +131,51 @@ fn beside(name: &str, known: &[u8], list: &[u8]) -> String {
 
 // ---- modules
 
-/// What a module may bring in, by where it stands. Only the names that its text has are brought in.
-const IMPORTS: [(&str, &[&str]); 14] = [
-    ("Prim.Native.Nat", &["ℕ"]),
-    ("mathlib.Core.Path", &["_≡_", "refl"]),
-    ("mathlib.Core.Bool", &["Bool", "true", "false", "_&&_"]),
-    ("mathlib.Core.List", &["List", "[]", "_∷_", "_++_"]),
-    ("lib.ListN", &["length", "take", "drop", "replicate"]),
-    ("lib.Dec", &["T"]),
-    ("Rattle·vmd_format.specs.Answer", &["Answer", "declined", "given"]),
-    ("Rattle·vmd_format.specs.Read", &["lenient"]),
-    ("Rattle·vmd_format.specs.Take", &["Take", "same", "read-take"]),
-    ("Rattle·vmd_format.specs.Opening", &["ik-total", "smallest-frame", "largest-frame"]),
-    ("Rattle·vmd_format.specs.Join", &["export-file", "join-files"]),
-    ("Rattle·vmd_format.specs.Parts", &["Parts", "build"]),
-    ("Rattle·vmd_format.specs.Computed", &["computed", "declines", "bytes-of", "counting"]),
+/// What a module may bring in, by where it stands. Only the names that its text has outside of comments are brought in.
+const IMPORTS: [(&str, &[&str]); 9] = [
     (
-        "Rattle·vmd_answers·specs.specs.Said",
+        "Rattle.std.specs.Prelude",
+        &[
+            "ℕ",
+            "◌≡◌",
+            "refl",
+            "Bool",
+            "true",
+            "false",
+            "◌&&◌",
+            "List",
+            "[]",
+            "◌∷◌",
+            "◌++◌",
+            "length",
+            "take",
+            "drop",
+            "replicate",
+            "T",
+        ],
+    ),
+    ("Rattle.vmd_format.specs.Answer", &["Answer", "declined", "given"]),
+    ("Rattle.vmd_format.specs.Read", &["lenient"]),
+    ("Rattle.vmd_format.specs.Take", &["Take", "same", "read_take"]),
+    ("Rattle.vmd_format.specs.Opening", &["ik_total", "smallest_frame", "largest_frame"]),
+    ("Rattle.vmd_format.specs.Join", &["export_file", "join_files"]),
+    ("Rattle.vmd_format.specs.Parts", &["Parts", "build"]),
+    ("Rattle.vmd_format.specs.Computed", &["computed", "declines", "bytes_of", "counting"]),
+    (
+        "Rattle.vmd_answers.specs.Said",
         &[
             "refuses",
             "exports",
             "figures",
-            "join-refuses",
+            "join_refuses",
             "joins",
             "parts",
-            "build-refuses",
+            "build_refuses",
             "builds",
             "magic",
             "empty",
             "six",
-            "six-out",
+            "six_out",
         ],
     ),
 ];
@@ -207,9 +222,10 @@ impl Module {
     }
 
     pub fn text(&self) -> String {
+        let code = self.body.lines().filter(|line| !line.starts_with("--"));
         let words: std::collections::BTreeSet<&str> =
-            self.body.split(|c: char| c.is_whitespace() || "(){};,".contains(c)).collect();
-        let used = |name: &str| words.contains(name) || words.contains(name.trim_matches('_'));
+            code.flat_map(|line| line.split(|c: char| c.is_whitespace() || "(){};,".contains(c))).collect();
+        let used = |name: &str| words.contains(name) || words.contains(name.trim_matches('◌'));
         let defined = |name: &str| self.body.contains(&format!("\n{name} "));
         let mut text =
             format!("-- {}\n-- Written by oracle/samples.sh from the original's answers, not by hand.\n", self.comment);

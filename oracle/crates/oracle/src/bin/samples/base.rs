@@ -102,10 +102,10 @@ pub fn flags_of_six() -> [(&'static str, usize); 6] {
     let (cameras_end, shadows, properties) = (boundaries[8], boundaries[11], boundaries[13]);
     [
         ("perspective", cameras_end - 1),
-        ("visible-0", properties + 4),
-        ("enabled-0", properties + 9 + 20),
-        ("enabled-1", properties + 9 + 21 + 20),
-        ("visible-1", properties + 9 + 2 * 21 + 4),
+        ("visible_0", properties + 4),
+        ("enabled_0", properties + 9 + 20),
+        ("enabled_1", properties + 9 + 21 + 20),
+        ("visible_1", properties + 9 + 2 * 21 + 4),
         ("mode", shadows + 4),
     ]
 }
@@ -127,13 +127,13 @@ pub fn joined_files() -> Vec<(&'static str, Vec<u8>)> {
     vec![
         ("nothing", empty()[..54].to_vec()),
         ("named", take_of(b"Name", 1, 0, &[])),
-        ("two-bones", take_of(b"", 2, 0, &[bone(b"B", 2), bone(b"", 1)])),
-        ("a-morph", take_of(b"Morph", 2, 1, &[morph(b"M", 3, 0x7f80_0001)])),
-        ("a-camera", take_of(b"", 6, 2, &[camera(6, &SPECIAL, 255)])),
+        ("two_bones", take_of(b"", 2, 0, &[bone(b"B", 2), bone(b"", 1)])),
+        ("a_morph", take_of(b"Morph", 2, 1, &[morph(b"M", 3, 0x7f80_0001)])),
+        ("a_camera", take_of(b"", 6, 2, &[camera(6, &SPECIAL, 255)])),
         ("legs", take_of(b"Legs", 6, 5, &[property(8, 1, &[(b"L", 0), (b"R", 2)]), property(9, 0, &[])])),
         ("oversized", oversized),
         ("cut", empty()[..57].to_vec()),
-        ("other-magic", other_magic),
+        ("other_magic", other_magic),
     ]
 }
 

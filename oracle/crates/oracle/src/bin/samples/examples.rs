@@ -11,7 +11,7 @@ use oracle::random::Random;
 use std::path::Path;
 
 const SEED: u64 = 91;
-const SECTIONS: [&str; 6] = ["bones", "morphs", "cameras", "lights", "self-shadows", "properties"];
+const SECTIONS: [&str; 6] = ["bones", "morphs", "cameras", "lights", "self_shadows", "properties"];
 
 pub fn write(folder: &Path) {
     let (said, known) = said();
@@ -33,55 +33,55 @@ pub fn write(folder: &Path) {
 const DEFINITIONS: &str = "\
 -- the file is refused with this number
 abbrev pub refuses : List ℕ → ℕ → Bool
-refuses s n = declines (export-file lenient s) n
+refuses s n = declines (export_file lenient s) n
 
 -- the file is exported as these bytes
 abbrev pub exports : List ℕ → List ℕ → Bool
-exports s t = same (bytes-of (export-file lenient s)) t
+exports s t = same (bytes_of (export_file lenient s)) t
 
-abbrev figures-of : Answer Take → List ℕ
-figures-of (declined k) = []
-figures-of (given t) =
-    length (t .bones) ∷ length (t .morphs) ∷ length (t .cameras) ∷ length (t .lights) ∷ length (t .self-shadows) ∷ length (t .properties)
-    ∷ ik-total (t .properties) ∷ smallest-frame t ∷ largest-frame t ∷ []
+abbrev figures_of : Answer Take → List ℕ
+figures_of (declined k) = []
+figures_of (given t) =
+    length t.bones ∷ length t.morphs ∷ length t.cameras ∷ length t.lights ∷ length t.self_shadows ∷ length t.properties
+    ∷ ik_total t.properties ∷ smallest_frame t ∷ largest_frame t ∷ []
 
 -- the file has these six counts, IK states, smallest and largest frame
 abbrev pub figures : List ℕ → List ℕ → Bool
-figures s l = same (figures-of (read-take lenient s)) l
+figures s l = same (figures_of (read_take lenient s)) l
 
 -- the join is refused with this number, or written as these bytes
-abbrev pub join-refuses : List ℕ → List ℕ → ℕ → Bool
-join-refuses s t n = declines (join-files lenient s t) n
+abbrev pub join_refuses : List ℕ → List ℕ → ℕ → Bool
+join_refuses s t n = declines (join_files lenient s t) n
 
 abbrev pub joins : List ℕ → List ℕ → List ℕ → Bool
-joins s t u = same (bytes-of (join-files lenient s t)) u
+joins s t u = same (bytes_of (join_files lenient s t)) u
 
 -- the builder's parameters in their order
 abbrev pub parts : List ℕ → List ℕ → List ℕ → List ℕ → List ℕ → List ℕ → List ℕ → List ℕ → List ℕ → List ℕ → List ℕ → List ℕ → List ℕ → List ℕ → List ℕ → List ℕ → List ℕ → Parts
 parts m bs be ms me c l s p bi bf bt br bn mi mf mw = record {
   model = m;
-  bone-names = record { bytes = bs; ends = be };
-  morph-names = record { bytes = ms; ends = me };
+  bone_names = record { bytes = bs; ends = be };
+  morph_names = record { bytes = ms; ends = me };
   cameras = c;
   lights = l;
-  self-shadows = s;
+  self_shadows = s;
   properties = p;
-  bone-name-indices = bi;
-  bone-frames = bf;
-  bone-translations = bt;
-  bone-rotations = br;
-  bone-interpolations = bn;
-  morph-name-indices = mi;
-  morph-frames = mf;
-  morph-weights = mw;
+  bone_name_indices = bi;
+  bone_frames = bf;
+  bone_translations = bt;
+  bone_rotations = br;
+  bone_interpolations = bn;
+  morph_name_indices = mi;
+  morph_frames = mf;
+  morph_weights = mw;
 }
 
 -- building is refused with this number, or writes these bytes
-abbrev pub build-refuses : Parts → ℕ → Bool
-build-refuses p n = declines (build p) n
+abbrev pub build_refuses : Parts → ℕ → Bool
+build_refuses p n = declines (build p) n
 
 abbrev pub builds : Parts → List ℕ → Bool
-builds p t = same (bytes-of (build p)) t";
+builds p t = same (bytes_of (build p)) t";
 
 fn said() -> (Module, Known) {
     let mut module = Module::new("Said", "What the examples say, and the files that they are made of.");
@@ -100,8 +100,8 @@ fn said() -> (Module, Known) {
         &in_lines(&six),
     );
     known.add("six", &six);
-    module.define_said("its export", "six-out", &in_lines(&six_out));
-    known.add("six-out", &six_out);
+    module.define_said("its export", "six_out", &in_lines(&six_out));
+    known.add("six_out", &six_out);
     (module, known)
 }
 
@@ -132,17 +132,17 @@ fn headers(known: &Known) -> Module {
     let mut module =
         Module::new("Headers", "Document 01's takes, every prefix of the empty take, and every byte of its header changed.");
     for (i, file) in files::takes_of_document_01().iter().enumerate() {
-        add_file(&mut module, known, &format!("take-{i}"), file);
+        add_file(&mut module, known, &format!("take_{i}"), file);
     }
     for (len, file) in files::prefixes(&base::empty()).enumerate() {
-        add_file(&mut module, known, &format!("prefix-{len}"), &file);
+        add_file(&mut module, known, &format!("prefix_{len}"), &file);
     }
     for at in 0..50 {
         let mut file = base::empty();
         file[at] ^= 0x21;
-        add_file(&mut module, known, &format!("header-{at}"), &file);
+        add_file(&mut module, known, &format!("header_{at}"), &file);
         if at < 31 && at % 5 == 0 {
-            add_file(&mut module, known, &format!("short-header-{at}"), &file[..30 + at % 20]);
+            add_file(&mut module, known, &format!("short_header_{at}"), &file[..30 + at % 20]);
         }
     }
     module
@@ -167,11 +167,11 @@ fn cuts(known: &Known) -> Module {
     lengths.sort();
     lengths.dedup();
     for len in lengths.into_iter().filter(|&len| len <= six.len()) {
-        add_file(&mut module, known, &format!("cut-{len}"), &six[..len]);
+        add_file(&mut module, known, &format!("cut_{len}"), &six[..len]);
     }
     for over in 1..6u8 {
         let file = [six.clone(), (1..=over).collect()].concat();
-        add_file(&mut module, known, &format!("over-{over}"), &file);
+        add_file(&mut module, known, &format!("over_{over}"), &file);
     }
     module
 }
@@ -185,7 +185,7 @@ fn counts(known: &Known) -> Module {
                 let mut pieces = files::Pieces::empty();
                 pieces.sections[section] = files::Section { count, bytes: vec![7; left] };
                 let file = pieces.first_sections(section + 1);
-                add_file(&mut module, known, &format!("{label}-{count}-in-{left}"), &file);
+                add_file(&mut module, known, &format!("{label}_{count}_in_{left}"), &file);
             }
         }
     }
@@ -193,7 +193,7 @@ fn counts(known: &Known) -> Module {
     for count in [0, 1, 3, 4, 0x7fff_ffff, 0xffff_ffff, wrapping(21)] {
         let mut file = base::six();
         file[frame + 5..frame + 9].copy_from_slice(&count.to_le_bytes());
-        add_file(&mut module, known, &format!("ik-states-{count}"), &file);
+        add_file(&mut module, known, &format!("ik_states_{count}"), &file);
     }
     module
 }
@@ -210,7 +210,7 @@ fn flags(known: &Known) -> Module {
         for value in [0, 1, 2, 128, 255] {
             let mut file = base::six();
             file[at] = value;
-            add_file(&mut module, known, &format!("{label}-is-{value}"), &file);
+            add_file(&mut module, known, &format!("{label}_is_{value}"), &file);
         }
     }
     module
@@ -257,7 +257,7 @@ fn take_text(take: &VmdParsedAnimation) -> String {
     let properties = take.property_frames.iter().map(|p| {
         let states = p.ik_states.iter();
         let states = states.map(|k| fields(&["name", "enabled"], &[antt::bytes(&k.bone_name_bytes), k.enabled.to_string()]));
-        fields(&["frame", "visible", "ik-states"], &[number(p.frame), p.visible.to_string(), records(states.collect())])
+        fields(&["frame", "visible", "ik_states"], &[number(p.frame), p.visible.to_string(), records(states.collect())])
     });
     let sections = [
         records(bones.collect()),
@@ -273,18 +273,18 @@ fn take_text(take: &VmdParsedAnimation) -> String {
 
 fn add_take(module: &mut Module, known: &Known, name: &str, file: &[u8]) {
     let take = original::read(file).expect("the file is accepted");
-    module.equal(name, &format!("read-take lenient {}", atom(&known.bytes(file))), &format!("given ({})", take_text(&take)));
+    module.equal(name, &format!("read_take lenient {}", atom(&known.bytes(file))), &format!("given ({})", take_text(&take)));
 }
 
 fn takes(known: &Known) -> Module {
     let mut module = Module::new("Records", "What files say, every field of every record.");
-    add_take(&mut module, known, "six-said", &base::six());
+    add_take(&mut module, known, "six_said", &base::six());
     for (name, file) in base::joined_files().into_iter().filter(|(_, file)| original::read(file).is_ok()) {
-        add_take(&mut module, known, &format!("{name}-said"), &file);
+        add_take(&mut module, known, &format!("{name}_said"), &file);
     }
     let drawn = (0u64..).map(|i| files::pieces(1, &mut Random::for_case(SEED, i)).file());
     for (i, file) in drawn.filter(|file| (100..300).contains(&file.len())).take(24).enumerate() {
-        add_take(&mut module, known, &format!("random-{i}"), &file);
+        add_take(&mut module, known, &format!("random_{i}"), &file);
     }
     module
 }
@@ -303,9 +303,9 @@ fn joins(known: &Known) -> Module {
     files.push(("six", base::six()));
     for (first_name, first) in &files {
         for (second_name, second) in &files {
-            let name = format!("{first_name}-and-{second_name}");
+            let name = format!("{first_name}_and_{second_name}");
             match original::join_files(first, second) {
-                Err(refusal) => module.holds(&name, &format!("join-refuses {first_name} {second_name} {refusal}")),
+                Err(refusal) => module.holds(&name, &format!("join_refuses {first_name} {second_name} {refusal}")),
                 Ok(joined) => {
                     let joined = atom(&known.bytes(&joined));
                     module.holds(&name, &format!("joins {first_name} {second_name} {joined}"));
@@ -324,21 +324,21 @@ fn columns(p: &Parts) -> Vec<(&'static str, Vec<u32>)> {
     let bits = |floats: &[f32]| floats.iter().map(|value| value.to_bits()).collect::<Vec<_>>();
     vec![
         ("model", wide(&p.model_name)),
-        ("bone-bytes", wide(&p.bone_name_bytes)),
-        ("bone-ends", p.bone_name_ends.clone()),
-        ("morph-bytes", wide(&p.morph_name_bytes)),
-        ("morph-ends", p.morph_name_ends.clone()),
+        ("bone_bytes", wide(&p.bone_name_bytes)),
+        ("bone_ends", p.bone_name_ends.clone()),
+        ("morph_bytes", wide(&p.morph_name_bytes)),
+        ("morph_ends", p.morph_name_ends.clone()),
         ("cameras", wide(&p.camera_frames)),
         ("lights", wide(&p.light_frames)),
         ("shadows", wide(&p.self_shadow_frames)),
         ("properties", wide(&p.property_frames)),
-        ("bone-indices", p.bone_name_indices.clone()),
-        ("bone-frames", p.bone_frames.clone()),
+        ("bone_indices", p.bone_name_indices.clone()),
+        ("bone_frames", p.bone_frames.clone()),
         ("translations", bits(&p.bone_translations_xyz)),
         ("rotations", bits(&p.bone_rotations_xyzw)),
         ("interpolations", wide(&p.bone_interpolations)),
-        ("morph-indices", p.morph_name_indices.clone()),
-        ("morph-frames", p.morph_frames.clone()),
+        ("morph_indices", p.morph_name_indices.clone()),
+        ("morph_frames", p.morph_frames.clone()),
         ("weights", bits(&p.morph_weights)),
     ]
 }
@@ -361,7 +361,7 @@ fn parts_text(parts: &Parts) -> String {
 fn add_build(module: &mut Module, known: &Known, name: &str, parts: &Parts) {
     let text = parts_text(parts);
     match original::build(parts) {
-        Err(refusal) => module.holds(name, &format!("build-refuses {text} {refusal}")),
+        Err(refusal) => module.holds(name, &format!("build_refuses {text} {refusal}")),
         Ok(built) => module.holds(name, &format!("builds {text} {}", atom(&known.bytes(&built)))),
     }
 }
@@ -377,7 +377,7 @@ fn spelled(named: impl std::fmt::Debug) -> String {
     let mut text = String::new();
     for c in format!("{named:?}").chars() {
         if c.is_uppercase() && !text.is_empty() {
-            text.push('-');
+            text.push('_');
         }
         text.push(c.to_ascii_lowercase());
     }
@@ -393,26 +393,26 @@ fn builds(known: &Known) -> Module {
         module.define(name, &antt::numbers(&column));
     }
     let built = original::build(&sound).expect("they have no fault");
-    module.define_said("what is built from them", "sound-out", &known.bytes(&built));
-    known.add("sound-out", &built);
+    module.define_said("what is built from them", "sound_out", &known.bytes(&built));
+    known.add("sound_out", &built);
     let mut random = Random::for_case(SEED, 1 << 32);
     add_build(&mut module, &known, "sound", &sound);
-    add_build(&mut module, &known, "no-parts", &Parts::default());
+    add_build(&mut module, &known, "no_parts", &Parts::default());
     for i in 0..8 {
-        add_build(&mut module, &known, &format!("random-{i}"), &part_sets::sound(0, 1, &mut random));
+        add_build(&mut module, &known, &format!("random_{i}"), &part_sets::sound(0, 1, &mut random));
     }
     for fault in FAULTS {
-        add_build(&mut module, &known, &format!("with-{}", spelled(fault)), &with_faults(&[fault], &mut random));
+        add_build(&mut module, &known, &format!("with_{}", spelled(fault)), &with_faults(&[fault], &mut random));
     }
     let seen = &FAULTS[NOT_WHOLE..];
     for (i, &first) in seen.iter().enumerate() {
         let second = seen[(i * 7 + 5) % seen.len()];
-        let name = format!("with-{}-and-{}", spelled(first), spelled(second));
+        let name = format!("with_{}_and_{}", spelled(first), spelled(second));
         add_build(&mut module, &known, &name, &with_faults(&[first, second], &mut random));
     }
     for place in PLACES {
         for [lead, trail] in base::PAIRS {
-            let name = format!("{}-{lead:02x}-{trail:02x}", spelled(place));
+            let name = format!("{}_{lead:02x}_{trail:02x}", spelled(place));
             add_build(&mut module, &known, &name, &base::named_parts(place, &[lead, trail]));
         }
     }
