@@ -9,6 +9,8 @@ fail() { printf 'c_interface: %s\n' "$*" >&2; exit 1; }
 work=$(mktemp -d)
 trap 'rm -rf "$work"' EXIT
 
+# proved and built anew, whatever the times of its files say
+[ -n "${VMD_LIB:-}" ] || rm -f crates/vmd_c/out/libvmd_c.a
 library=$(host/library) || fail "there is no library"
 
 warnings=(-Wall -Wextra -Werror -pedantic -Iinclude)
