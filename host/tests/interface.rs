@@ -85,10 +85,10 @@ fn rattle_file(folder: &str, has: &str, comment: &str) -> String {
 
 fn refusals_of_the_rattle() -> BTreeMap<u32, String> {
     let source = rattle_file("src", "enum VmdRefusal {", "//");
-    let arms = between(between(&source, "impl VmdRefusal {", "\n}"), "match self {", "}").split(',');
-    let table = numbered(arms.map(|arm| arm.trim().trim_start_matches("VmdRefusal::")), "=>");
-    let variants = between(&source, "enum VmdRefusal {", "}").split(',').map(str::trim).filter(|name| !name.is_empty());
-    assert!(table.values().eq(variants), "the variants are not in the order of their numbers");
+    let variants = between(&source, "enum VmdRefusal {", "}");
+    let table = numbered(variants.split(','), "=");
+    let names = variants.split(',').filter_map(|variant| variant.split_once('=')).map(|(name, _)| name.trim());
+    assert!(table.values().eq(names), "the variants are not in the order of their numbers");
     by_number(table.into_iter().map(|(number, name)| (number, as_in_c(&name))))
 }
 

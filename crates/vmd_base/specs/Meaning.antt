@@ -1,4 +1,6 @@
 -- What the types of the code mean in the terms of the format, by cases. Definitions only.
+use Rattle.std.specs.Prelude.{Result, Ok, Err}
+use Rattle.vmd_format.specs.Answer.{Answer, declined, given}
 use Rattle.vmd_format.specs.Refusal.{Refusal, file_ends_early, magic_differs, scratch_too_short, outside, parts_not_whole, name_unfit, name_not_good, not_finite, self_shadow_unfit, columns_disagree, count_too_large, name_index_too_large, output_too_short, parts_do_not_fit, model_name_too_long, bytes_over, count_oversized, first_above_last}
 use Rattle.vmd_format.specs.Read.{Manner, strict, lenient}
 use Rattle.vmd_format.specs.Take.{Edition, newer, older}
@@ -30,6 +32,15 @@ refusal_of ModelNameTooLong = model_name_too_long
 refusal_of BytesOver = bytes_over
 refusal_of CountOversized = count_oversized
 refusal_of FirstAboveLast = first_above_last
+
+-- what a call answers, its value in the terms of the format
+abbrev pub answer : {A B : Type 0} → (A → B) → Result A VmdRefusal → Answer B
+answer f (Ok a) = given (f a)
+answer f (Err k) = declined (refusal_of k)
+
+-- the same where the value is one of them
+abbrev pub answer_of : {A : Type 0} → Result A VmdRefusal → Answer A
+answer_of r = answer (λ a. a) r
 
 abbrev pub edition_is : VmdEdition → Edition
 edition_is Newer = newer

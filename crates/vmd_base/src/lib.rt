@@ -2,7 +2,7 @@
 // file.
 #![tactic(auto)]
 
-ghost use Rattle.std.specs.Prelude.{◌≡◌, ◌≤◌};
+ghost use Rattle.std.specs.Prelude.{◌≡◌, ◌+◌, ◌≤◌};
 ghost use Rattle.vmd_format.specs.Refusal.{number};
 ghost use Rattle.vmd_format.specs.Take.{model_width};
 ghost use Rattle.vmd_base.specs.Meaning.{refusal_of, edition_is};
@@ -31,57 +31,38 @@ pub const OLDER_MAGIC: [u8; MAGIC_SIZE] = *b"Vocaloid Motion Data file\0\0\0\0\0
 // ---- types
 
 // What is turned down: the table of refusals.
-#[derive(Clone, Copy)]
+#[derive(Clone, Copy, Debug, PartialEq, Eq)]
 pub enum VmdRefusal {
-    FileEndsEarly,
-    MagicDiffers,
-    ScratchTooShort,
-    Outside,
-    PartsNotWhole,
-    NameUnfit,
-    NameNotGood,
-    NotFinite,
-    SelfShadowUnfit,
-    ColumnsDisagree,
-    CountTooLarge,
-    NameIndexTooLarge,
-    OutputTooShort,
-    PartsDoNotFit,
-    ModelNameTooLong,
-    BytesOver,
-    CountOversized,
-    FirstAboveLast,
+    FileEndsEarly = 1,
+    MagicDiffers = 2,
+    ScratchTooShort = 3,
+    Outside = 4,
+    PartsNotWhole = 5,
+    NameUnfit = 6,
+    NameNotGood = 7,
+    NotFinite = 8,
+    SelfShadowUnfit = 9,
+    ColumnsDisagree = 10,
+    CountTooLarge = 11,
+    NameIndexTooLarge = 12,
+    OutputTooShort = 13,
+    PartsDoNotFit = 14,
+    ModelNameTooLong = 15,
+    BytesOver = 16,
+    CountOversized = 17,
+    FirstAboveLast = 18,
 }
 
 impl VmdRefusal {
     pub fn number(self) -> u32
         ensures { result ≡ number (refusal_of self) }
     {
-        match self {
-            VmdRefusal::FileEndsEarly => 1,
-            VmdRefusal::MagicDiffers => 2,
-            VmdRefusal::ScratchTooShort => 3,
-            VmdRefusal::Outside => 4,
-            VmdRefusal::PartsNotWhole => 5,
-            VmdRefusal::NameUnfit => 6,
-            VmdRefusal::NameNotGood => 7,
-            VmdRefusal::NotFinite => 8,
-            VmdRefusal::SelfShadowUnfit => 9,
-            VmdRefusal::ColumnsDisagree => 10,
-            VmdRefusal::CountTooLarge => 11,
-            VmdRefusal::NameIndexTooLarge => 12,
-            VmdRefusal::OutputTooShort => 13,
-            VmdRefusal::PartsDoNotFit => 14,
-            VmdRefusal::ModelNameTooLong => 15,
-            VmdRefusal::BytesOver => 16,
-            VmdRefusal::CountOversized => 17,
-            VmdRefusal::FirstAboveLast => 18,
-        }
+        self as u32
     }
 }
 
 // The editions of the format. Their headers differ, and nothing else.
-#[derive(Clone, Copy)]
+#[derive(Clone, Copy, Debug, PartialEq, Eq)]
 pub enum VmdEdition {
     Newer,
     Older,
@@ -102,21 +83,44 @@ impl VmdEdition {
 // The manner of reading a whole take. Strict, which is meant where none is named: an oversized camera, light or self-shadow
 // count is refused, and so are bytes after the last property frame. Lenient: such a count empties its section, and such bytes
 // are ignored.
-#[derive(Clone, Copy)]
+#[derive(Clone, Copy, Debug, PartialEq, Eq)]
 pub enum VmdManner {
     Strict,
     Lenient,
 }
 
 // How many records a section has, and where the first is.
-#[derive(Clone, Copy)]
+#[derive(Clone, Copy, Debug, PartialEq, Eq)]
 pub struct VmdSection {
     pub count: u32,
     pub place: usize,
 }
 
-// A part of a file: where it begins, and how many bytes it has; 0 and 0 where there is none.
-#[derive(Clone, Copy)]
+// How many records each section has.
+#[derive(Clone, Copy, Debug, PartialEq, Eq)]
+pub struct VmdCounts {
+    pub bones: u32,
+    pub morphs: u32,
+    pub cameras: u32,
+    pub lights: u32,
+    pub self_shadows: u32,
+    pub properties: u32,
+}
+
+impl VmdCounts {
+    // The records of all six sections.
+    pub fn records(self) -> u64
+        ensures { result ≡ self.bones + self.morphs + self.cameras + self.lights + self.self_shadows + self.properties }
+    {
+        let front = (self.bones as u64) + (self.morphs as u64) + (self.cameras as u64);
+        let back = (self.lights as u64) + (self.self_shadows as u64) + (self.properties as u64);
+        front + back
+    }
+}
+
+// A part of a file: where it begins, and how many bytes it has; 0 and 0 where there is none. No Option: the functions for C
+// fill two slots with it, 0 and 0 too.
+#[derive(Clone, Copy, Debug, PartialEq, Eq)]
 pub struct VmdPart {
     pub at: usize,
     pub len: usize,

@@ -1,6 +1,6 @@
 -- Floats and their bits. Assumes nothing.
-use Rattle.std.proofs.Common.{◌≡◌, ℕ, ◌*◌, ◌/◌, ◌%◌, ◌<◌, ◌≤◌, true, false, not, T, ltb, sym, refl, ◌∙◌, ⊎_elim, eq-or-lt_of_le, arith, le-ltb, lt-ltb, eq-eqb, ne_eqb}
-use lib.Ieee.{Float, nan, inf, fin, binary32, up, down, of_bits, to_bits, of_fields, odd, div, ne, eq, is_nan, nan_bits}
+use Rattle.std.proofs.Common.{◌≡◌, ℕ, ◌/◌, ◌%◌, ◌<◌, ◌≤◌, true, false, not, T, ltb, sym, refl, ◌∙◌, ⊎_elim, eq-or-lt_of_le, arith, le-ltb, lt-ltb, eq-eqb, ne_eqb}
+use lib.Ieee.{Float, nan, inf, fin, binary32, of_bits, to_bits, is_nan, nan_bits}
 use lib.Ieee.Bits.{nan_bits_is, nan_bits_above}
 use Rattle.vmd_format.specs.Parts.{finite}
 
@@ -12,11 +12,6 @@ unfolding is_nan
 nan_is nan h = refl
 nan_is (inf s) h = absurd (never h)
 nan_is (fin s m e) h = absurd (never h)
-
--- the NaN, as code makes it
-pub zero_over_zero : div binary32 (of_bits binary32 0) (of_bits binary32 0) ≡ nan
-unfolding div of_bits of_fields odd
-zero_over_zero = refl
 
 pub nan_pattern : (n : ℕ) → 2139095040 < n % 2147483648 → of_bits binary32 n ≡ nan
 nan_pattern n h = nan_is (of_bits binary32 n) (sym (nan_bits_is binary32 n) ∙ nan_bits_above binary32 n ∙ lt-ltb _ _ h)
@@ -39,20 +34,8 @@ nan_not_finite : finite (to_bits binary32 nan) ≡ false
 unfolding finite to_bits
 nan_not_finite = refl
 
--- only a NaN differs from itself
-pub differs_not_finite : (x : Float) → ne x x ≡ true → finite (to_bits binary32 x) ≡ false
-unfolding ne eq
-differs_not_finite nan h = nan_not_finite
-differs_not_finite (inf true) h = absurd (never h)
-differs_not_finite (inf false) h = absurd (never h)
-differs_not_finite (fin true m e) h = absurd (never (rw (eq-eqb (m * up e * down e) (m * up e * down e) refl) at h))
-differs_not_finite (fin false m e) h = absurd (never (rw (eq-eqb (m * up e * down e) (m * up e * down e) refl) at h))
-
-pub alike_no_nan : (x : Float) → ne x x ≡ false → T (not (is_nan x))
-unfolding is_nan ne eq
-alike_no_nan nan h = absurd (never (sym h))
-alike_no_nan (inf s) h = tt
-alike_no_nan (fin s m e) h = tt
+pub nan_none_finite : (x : Float) → is_nan x ≡ true → false ≡ finite (to_bits binary32 x)
+nan_none_finite x h = rw (nan_is x h) (sym nan_not_finite)
 
 pub finite_no_nan : (x : Float) → finite (to_bits binary32 x) ≡ true → T (not (is_nan x))
 unfolding is_nan

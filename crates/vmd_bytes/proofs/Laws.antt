@@ -1,9 +1,12 @@
 -- Laws of writes and runs, of numbers in bytes, and of name fields. Assumes nothing.
-use Rattle.std.proofs.Common.{◌≡◌, ℕ, zero, suc, ◌+◌, ◌-◌, ◌*◌, ◌<◌, ◌≤◌, Bool, true, false, cond, not, ◌&&◌, eqb, List, [], ◌∷◌, ◌++◌, length, get_or, take, drop, set, replicate, sym, refl, ap, ◌∙◌, ap₂, append_assoc, append-nil, suc-le-suc, le_of_suc-le-suc, not-suc-le-zero, add-zero, add_assoc, zero-lt-suc, suc-ne-zero, add-one, arith, length-append, length-drop, take-append-drop, length-take, length-take-le, get_or-drop, drop-cons, take-take, drop-drop, take_at, take-add, eq-eqb, ne_eqb}
+use Rattle.std.proofs.Common.{◌≡◌, ℕ, zero, suc, ◌+◌, ◌-◌, ◌*◌, ◌<◌, ◌≤◌, Bool, true, false, cond, not, ◌&&◌, eqb, List, [], ◌∷◌, ◌++◌, length, get_or, take, drop, set, replicate, sym, refl, ap, ◌∙◌, ap₂, append_assoc, append-nil, suc-le-suc, le_of_suc-le-suc, not-suc-le-zero, add-zero, add_assoc, zero-lt-suc, suc-ne-zero, add-one, arith, length-append, length-drop, take-append-drop, length-take, length-take-le, get_or-drop, drop-cons, take-take, drop-drop, take_at, take-add, ne_eqb}
 use native.Mathlib.Nat.{add-sub_cancel_left, sub-zero, zero-sub, suc-sub-suc}
 use lib.ListN.{length-replicate, replicate-append-replicate}
 use lib.Seq.{take-nil, take-length, take-append-le, drop-append-add, set_split, append_snoc}
-use Rattle.vmd_format.specs.Bytes.{u32, u32_bytes, before_zero, padded}
+use borrow.Rule.Slice.PartMut.{put_mid}
+use Rattle.std.specs.Cmp.Lexicographic.{pointwise}
+use Rattle.std.specs.Int.{from_bool}
+use Rattle.vmd_format.specs.Bytes.{u32, u32_bytes, before_zero, padded, flag_byte, inverted_byte}
 use Rattle.vmd_laws.specs.BytesLaws.{padded_length}
 use Rattle.vmd_format.specs.Take.{same}
 use Rattle.vmd_bytes.specs.Slices.{splice, run}
@@ -47,21 +50,6 @@ splice_snoc l at u a h =
 
 pub splice_snoc_at : (l : List ℕ) (at : ℕ) (u : List ℕ) (n a : ℕ) → length u ≡ n → at + n < length l → set (splice l at u) (at + n) a ≡ splice l at (u ++ (a ∷ []))
 splice_snoc_at l at u n a e h = rw (← e) (splice_snoc l at u a (rw e h))
-
--- stores in a row, as straight-line code leaves them: the first at + k
-abbrev pub stores : List ℕ → ℕ → ℕ → List ℕ → List ℕ
-stores l at k [] = l
-stores l at k (v ∷ vs) = stores (set l (at + k) v) at (suc k) vs
-
-stores_more : (vs l : List ℕ) (at : ℕ) (u : List ℕ) (k : ℕ) → length u ≡ k → at + k + length vs ≤ length l → stores (splice l at u) at k vs ≡ splice l at (u ++ vs)
-stores_more [] l at u k e h = rw append-nil
-stores_more (v ∷ vs) l at u k e h =
-    rw (splice_snoc_at l at u k v e (omega arith))
-    (stores_more vs l at (u ++ (v ∷ [])) (suc k) (length-append u (v ∷ []) ∙ omega arith) (omega arith) ∙ rw append_assoc)
-
--- stores in a row are one write
-pub stores_splice : (l : List ℕ) (at a : ℕ) (vs : List ℕ) → at + suc (length vs) ≤ length l → stores (set l at a) at 1 vs ≡ splice l at (a ∷ vs)
-stores_splice l at a vs h = rw (set_splice l at a (omega arith)) (stores_more vs l at (a ∷ []) 1 refl (omega arith))
 
 -- a write over a shorter one at the same place
 splice_over : (l : List ℕ) (at : ℕ) (u v : List ℕ) → length u ≤ length v → at + length v ≤ length l → splice (splice l at u) at v ≡ splice l at v
@@ -127,11 +115,10 @@ pub drop_run : (l : List ℕ) (at n k : ℕ) → drop k (run l at n) ≡ run l (
 unfolding run
 drop_run l at n k = rw (drop_take k n (drop at l), drop-drop)
 
--- two copies, the second where the first ends, are one copy of both
-pub copied_on : {x o : List ℕ} (s : List ℕ) (at : ℕ) (l : List ℕ) (to n m : ℕ) → at + n ≤ length s → to + n ≤ length l
-    → x ≡ splice l to (run s at n) → o ≡ splice x (to + n) (run s (at + n) m) → o ≡ splice l to (run s at (n + m))
-copied_on s at l to n m h r e f =
-    f ∙ rw e (splice_append_at l to (run s at n) (run s (at + n) m) n (length_run s at n h) r ∙ ap (splice l to) (sym (run_add s at n m)))
+-- what a write to `out[at..at + n]` leaves
+pub put_part : (l ys : List ℕ) (at n : ℕ) → length ys ≡ n → put_mid at (at + n - at) l ys ≡ splice l at ys
+unfolding splice
+put_part l ys at n e = rw (add-sub_cancel_left, drop-drop, e, append_assoc)
 
 -- the list of `&l[at..at + n]`
 pub range_part : (l : List ℕ) (at n : ℕ) → take (at + n - at) (drop at l) ≡ run l at n
@@ -142,6 +129,10 @@ range_part l at n = rw add-sub_cancel_left
 
 pub copy_turn : (s l : List ℕ) (at to i : ℕ) → at + i < length s → to + i < length l → set (splice l to (run s at i)) (to + i) (get_or s (at + i) 0) ≡ splice l to (run s at (i + 1))
 copy_turn s l at to i hs hl = rw (run_snoc s at i hs) (splice_snoc_at l to (run s at i) i (get_or s (at + i) 0) (length_run s at i (omega arith)) hl)
+
+-- a copy of m bytes where one of n ends
+pub copied_on : (s l : List ℕ) (at to n m : ℕ) → at + n ≤ length s → to + n ≤ length l → splice (splice l to (run s at n)) (to + n) (run s (at + n) m) ≡ splice l to (run s at (n + m))
+copied_on s l at to n m h r = rw (run_add s at n m) (splice_append_at l to (run s at n) (run s (at + n) m) n (length_run s at n h) r)
 
 pub fill_turn : (l : List ℕ) (to i a : ℕ) → to + i < length l → set (splice l to (replicate i a)) (to + i) a ≡ splice l to (replicate (i + 1) a)
 fill_turn l to i a h = rw (← replicate-append-replicate) (splice_snoc_at l to (replicate i a) i a (length-replicate i a) h)
@@ -157,27 +148,28 @@ pub u32_drop : (l : List ℕ) (at : ℕ) → u32 (drop at l) ≡ get_or l at 0 +
 unfolding u32
 u32_drop l at = simp (get_or-drop, add-zero)
 
+-- ---- flags
+
+-- a flag as a number of the machine is its byte
+pub flag_number : (b : Bool) → from_bool b ≡ flag_byte b
+unfolding flag_byte
+flag_number true = refl
+flag_number false = refl
+
+pub inverted_number : (b : Bool) → from_bool (not b) ≡ inverted_byte b
+unfolding inverted_byte
+inverted_number true = refl
+inverted_number false = refl
+
 -- ---- comparing
 
-and_false : (b : Bool) → (b && false) ≡ false
-and_false true = refl
-and_false false = refl
-
-pub same_differs : (a b : List ℕ) (n i : ℕ) → i < n → n ≤ length a → n ≤ length b → (get_or a i 0 ≡ get_or b i 0 → ⊥) → same (take n a) (take n b) ≡ false
+-- the comparison of slices is that of the format
+pub same_pointwise : (a b : List ℕ) → pointwise eqb a b ≡ same a b
 unfolding same
-same_differs a b zero i h ha hb ne = absurd (not-suc-le-zero h)
-same_differs [] b (suc n) i h ha hb ne = absurd (not-suc-le-zero ha)
-same_differs (x ∷ a) [] (suc n) i h ha hb ne = absurd (not-suc-le-zero hb)
-same_differs (x ∷ a) (y ∷ b) (suc n) zero h ha hb ne = rw (ne_eqb x y ne)
-same_differs (x ∷ a) (y ∷ b) (suc n) (suc i) h ha hb ne = rw (same_differs a b n i (le_of_suc-le-suc h) (le_of_suc-le-suc ha) (le_of_suc-le-suc hb) ne) (and_false (eqb x y))
-
-pub same_agrees : (a b : List ℕ) (n : ℕ) → n ≤ length a → n ≤ length b → ((k : ℕ) → k < n → get_or a k 0 ≡ get_or b k 0) → same (take n a) (take n b) ≡ true
-unfolding same
-same_agrees a b zero ha hb h = refl
-same_agrees [] b (suc n) ha hb h = absurd (not-suc-le-zero ha)
-same_agrees (x ∷ a) [] (suc n) ha hb h = absurd (not-suc-le-zero hb)
-same_agrees (x ∷ a) (y ∷ b) (suc n) ha hb h =
-    rw (eq-eqb x y (h 0 (zero-lt-suc n))) (same_agrees a b n (le_of_suc-le-suc ha) (le_of_suc-le-suc hb) (λ k m. h (suc k) (suc-le-suc m)))
+same_pointwise [] [] = refl
+same_pointwise [] (y ∷ b) = refl
+same_pointwise (x ∷ a) [] = refl
+same_pointwise (x ∷ a) (y ∷ b) = ap (λ (t : Bool). eqb x y && t) (same_pointwise a b)
 
 -- ---- names
 

@@ -1,11 +1,14 @@
 -- Laws of words: a word cut after its first zero byte has the canonical bytes. Byte by byte, for every number of bytes. Assumes nothing.
-use Rattle.std.proofs.Common.{◌≡◌, ℕ, zero, suc, ◌+◌, ◌*◌, ◌/◌, ◌%◌, ◌<◌, ◌≤◌, Bool, true, false, cond, ◌&&◌, T, eqb, List, [], ◌∷◌, ◌++◌, map, length, get_or, drop, replicate, sym, refl, ap, ◌∙◌, ⊎_elim, le_of_suc-le-suc, not-suc-le-zero, add-zero, mod-lt, mod-eq_of_lt, eq-or-lt_of_le, div-add-mod', suc-ne-zero, arith, eqb→eq, ne_eqb}
+use Rattle.std.proofs.Common.{◌≡◌, ℕ, zero, suc, ◌+◌, ◌-◌, ◌*◌, ◌/◌, ◌%◌, ◌<◌, ◌≤◌, Bool, true, false, cond, ◌&&◌, T, eqb, List, [], ◌∷◌, map, length, get_or, take, drop, replicate, sym, refl, ap, ◌∙◌, ⊎_elim, le_of_suc-le-suc, not-suc-le-zero, add-zero, add_assoc, mod-lt, mod-eq_of_lt, eq-or-lt_of_le, div-add-mod', suc-ne-zero, arith, eqb→eq, ne_eqb}
+use Rattle.std.specs.Int.{w64, to_le_bytes, from_le_bytes, from_bool}
+use Rattle.std.proofs.lemmas.Nat.{le_bytes_8}
+use Rattle.std.proofs.Math.Nat.{div-div-eq-div-mul}
+use Rattle.vmd_laws.specs.BytesLaws.{Bytes, bytes_nil, bytes_cons, bytes_drop}
 use lib.Bits.{bit_and, bit_or, bit_xor, and_block, or_block, xor_block, and_le_r, or_lt, xor_lt, and_mask, and_zero_r, xor_zero_l, xor_self}
-use Rattle.vmd_format.specs.Bytes.{u32, u32_bytes}
 use Rattle.vmd_bytes.specs.Slices.{run}
 use Rattle.vmd_bytes.specs.Fields.{no_zero, canonical, blank}
 use Rattle.vmd_bytes.specs.Words.{digits, repeated, zeros, up_to}
-use Rattle.vmd_bytes.proofs.Laws.{part_cons, part_zero, u32_drop, canonical_nil, canonical_zero, canonical_suc}
+use Rattle.vmd_bytes.proofs.Laws.{length_run, part_cons, part_zero, canonical_nil, canonical_zero, canonical_suc}
 
 -- ---- bytes of a number
 
@@ -24,85 +27,42 @@ digits_block n a b h =
 split : (x : ℕ) → x ≡ x / 256 * 256 + x % 256
 split x = sym (div-add-mod' x 256)
 
--- one byte more in front of the bytes that are read
-byte_more : (s : List ℕ) (at n v : ℕ) → at < length s → get_or s at 0 < 256 → digits n v ≡ run s (at + 1) n → digits (suc n) (v * 256 + get_or s at 0) ≡ run s at (suc n)
-byte_more s at n v h lt e = digits_block n v (get_or s at 0) lt ∙ rw e (sym (part_cons s at n h))
-
--- a number of four bytes in front of the bytes that are read
-u32_more : (s : List ℕ) (at n v : ℕ) → at + 4 ≤ length s → ((k : ℕ) → get_or s k 0 < 256) → digits n v ≡ run s (at + 4) n
-    → digits (suc (suc (suc (suc n)))) (u32 (drop at s) + 4294967296 * v) ≡ run s at (suc (suc (suc (suc n))))
-u32_more s at n v h lt e =
-    let p₂ : at + 1 + 1 ≡ at + 2 = omega arith in
-    let p₃ : at + 2 + 1 ≡ at + 3 = omega arith in
-    let p₄ : at + 3 + 1 ≡ at + 4 = omega arith in
-    let v₃ : ℕ = v * 256 + get_or s (at + 3) 0 in
-    let v₂ : ℕ = v₃ * 256 + get_or s (at + 2) 0 in
-    let v₁ : ℕ = v₂ * 256 + get_or s (at + 1) 0 in
-    let whole : u32 (drop at s) + 4294967296 * v ≡ v₁ * 256 + get_or s at 0 = rw (u32_drop s at) (omega arith) in
-    rw whole
-    (byte_more s at (suc (suc (suc n))) v₁ (omega arith) (lt at)
-    (byte_more s (at + 1) (suc (suc n)) v₂ (omega arith) (lt (at + 1))
-    (rw p₂ (byte_more s (at + 2) (suc n) v₃ (omega arith) (lt (at + 2))
-    (rw p₃ (byte_more s (at + 3) n v (omega arith) (lt (at + 3)) (rw p₄ e)))))))
-
--- the bytes of a number that is read
-digits_u32 : (s : List ℕ) (at : ℕ) → at + 4 ≤ length s → ((k : ℕ) → get_or s k 0 < 256) → digits 4 (u32 (drop at s)) ≡ run s at 4
+-- the eight bytes of a word
+pub word_bytes : (v : ℕ) → to_le_bytes w64 v ≡ digits 8 v
 unfolding digits
-digits_u32 s at h lt = ap (digits 4) (sym (add-zero (u32 (drop at s)))) ∙ u32_more s at 0 0 h lt (none 0 (at + 4))
-  where
-    none : (v p : ℕ) → digits 0 v ≡ run s p 0
-    none v p = sym (part_zero s p)
+word_bytes v = simp div-div-eq-div-mul
 
--- two numbers of four bytes are a word
-pub word_of : (s : List ℕ) (at : ℕ) → at + 8 ≤ length s → ((k : ℕ) → get_or s k 0 < 256) → digits 8 (u32 (drop at s) + 4294967296 * u32 (drop (at + 4) s)) ≡ run s at 8
-word_of s at h lt = u32_more s at 4 (u32 (drop (at + 4) s)) (omega arith) lt (digits_u32 s (at + 4) (omega arith) lt)
+bytes_take : (n : ℕ) (s : List ℕ) → Bytes s → Bytes (take n s)
+bytes_take zero s h = bytes_nil
+bytes_take (suc n) [] h = bytes_nil
+bytes_take (suc n) (b ∷ s) h = bytes_cons b (take n s) (h 0) (bytes_take n s (λ (i : ℕ). h (suc i)))
 
--- four bytes and the rest of a number
-abbrev four : ℕ → ℕ → ℕ → ℕ → ℕ → ℕ
-four a b c d v = (((v * 256 + d) * 256 + c) * 256 + b) * 256 + a
+run_small : (s : List ℕ) (at n : ℕ) → Bytes s → Bytes (run s at n)
+unfolding run
+run_small s at n h = bytes_take n (drop at s) (bytes_drop at s h)
 
-four_split : (v : ℕ) → v ≡ four (v % 256) (v / 256 % 256) (v / 256 / 256 % 256) (v / 256 / 256 / 256 % 256) (v / 256 / 256 / 256 / 256)
-four_split v = omega arith
+run_eight : (s : List ℕ) (at : ℕ) → at + 8 ≤ length s
+    → run s at 8
+    ≡ get_or s at 0 ∷ get_or s (at + 1) 0 ∷ get_or s (at + 2) 0 ∷ get_or s (at + 3) 0 ∷ get_or s (at + 4) 0 ∷ get_or s (at + 5) 0 ∷ get_or s (at + 6) 0 ∷ get_or s (at + 7) 0 ∷ []
+run_eight s at h =
+    rw (
+      part_cons s at 7 (omega arith),
+      part_cons s (at + 1) 6 (omega arith),
+      part_cons s (at + 1 + 1) 5 (omega arith),
+      part_cons s (at + 1 + 1 + 1) 4 (omega arith),
+      part_cons s (at + 1 + 1 + 1 + 1) 3 (omega arith),
+      part_cons s (at + 1 + 1 + 1 + 1 + 1) 2 (omega arith),
+      part_cons s (at + 1 + 1 + 1 + 1 + 1 + 1) 1 (omega arith),
+      part_cons s (at + 1 + 1 + 1 + 1 + 1 + 1 + 1) 0 (omega arith),
+      part_zero,
+    ) (simp add_assoc)
 
-module _ (a b c d v : ℕ) (ha : a < 256) (hb : b < 256) (hc : c < 256) (hd : d < 256) where
-  four_bytes : u32_bytes (four a b c d v) ≡ a ∷ b ∷ c ∷ d ∷ []
-  unfolding u32_bytes
-  four_bytes =
-      let n = four a b c d v in
-      let e₀ : n % 256 ≡ a = omega arith in
-      let q₁ : n / 256 ≡ ((v * 256 + d) * 256 + c) * 256 + b = omega arith in
-      let e₁ : n / 256 % 256 ≡ b = rw q₁ (omega arith) in
-      let q₂ : n / 65536 ≡ (v * 256 + d) * 256 + c = omega arith in
-      let e₂ : n / 65536 % 256 ≡ c = rw q₂ (omega arith) in
-      let q₃ : n / 16777216 ≡ v * 256 + d = omega arith in
-      let e₃ : n / 16777216 % 256 ≡ d = rw q₃ (omega arith) in
-      cc
-
-  four_low : four a b c d v % 4294967296 ≡ four a b c d 0
-  four_low = omega arith
-
-  four_high : four a b c d v / 4294967296 ≡ v
-  four_high = omega arith
-
-  four_digits : (n : ℕ) → digits (suc (suc (suc (suc n)))) (four a b c d v) ≡ a ∷ b ∷ c ∷ d ∷ digits n v
-  four_digits n = rw (digits_block _ _ a ha, digits_block _ _ b hb, digits_block _ _ c hc, digits_block _ _ d hd)
-
-  number_at : u32_bytes (four a b c d v) ≡ digits 4 (four a b c d v)
-  unfolding digits
-  number_at = four_bytes ∙ sym (four_digits 0)
-
--- the four bytes of a number
-u32_bytes_digits : (v : ℕ) → u32_bytes v ≡ digits 4 v
-u32_bytes_digits v = rw (four_split v) (number_at _ _ _ _ _ (omega arith) (omega arith) (omega arith) (omega arith))
-
-halves_at : (a b c d v : ℕ) → a < 256 → b < 256 → c < 256 → d < 256
-    → u32_bytes (four a b c d v % 4294967296) ++ u32_bytes (four a b c d v / 4294967296) ≡ digits 8 (four a b c d v)
-halves_at a b c d v ha hb hc hd =
-    rw (four_low a b c d v ha hb hc hd, four_high a b c d v ha hb hc hd, four_bytes a b c d 0 ha hb hc hd, four_digits a b c d v ha hb hc hd 4, u32_bytes_digits v)
-
--- the eight bytes of a word are those of its two halves
-pub word_halves : (v : ℕ) → u32_bytes (v % 4294967296) ++ u32_bytes (v / 4294967296) ≡ digits 8 v
-word_halves v = rw (four_split v) (halves_at _ _ _ _ _ (omega arith) (omega arith) (omega arith) (omega arith))
+-- the word that is read from eight bytes
+pub word_of : (s : List ℕ) (at n : ℕ) → at + 8 ≤ length s → ((k : ℕ) → get_or s k 0 < 256)
+    → n ≡ from_le_bytes w64 (get_or s at 0 ∷ get_or s (at + 1) 0 ∷ get_or s (at + 2) 0 ∷ get_or s (at + 3) 0 ∷ get_or s (at + 4) 0 ∷ get_or s (at + 5) 0 ∷ get_or s (at + 6) 0 ∷ get_or s (at + 7) 0 ∷ [])
+    → digits 8 n ≡ run s at 8
+word_of s at n h lt e =
+    sym (word_bytes n) ∙ le_bytes_8 (run s at 8) n (length_run s at 8 h) (run_small s at 8 lt) (rw (run_eight s at h) e)
 
 -- ---- the flags of zero bytes
 
@@ -186,12 +146,13 @@ up_flag n m =
     let e : m * 256 + 128 ≡ suc (m * 256 + 127) = omega arith in
     rw e (ap (λ (k : ℕ). bit_xor k (m * 256 + 127)) (sym e) ∙ xor_block 8 m m 128 127 (omega arith) (omega arith) ∙ rw (xor_self m))
 
--- what a mask of the flags m is, when s wraps back to m
-pub mask_of : (m s : ℕ) (live : Bool) → s < 18446744073709551616 → (s + cond live 1 0) % 18446744073709551616 ≡ m → bit_xor m s ≡ cond live (up_to 8 m) 0
+-- what a mask of the flags m is, where the difference wraps
+pub mask_of : (m : ℕ) (live : Bool) → m < 18446744073709551616
+    → bit_xor m ((m + (18446744073709551616 - from_bool live)) % 18446744073709551616) ≡ cond live (up_to 8 m) 0
 unfolding up_to repeated
-mask_of zero s true h e = let q : s ≡ 18446744073709551615 = omega arith in rw (xor_zero_l s) q
-mask_of (suc m) s true h e = let q : s ≡ m = omega arith in rw q
-mask_of m s false h e = let q : s ≡ m = omega arith in rw q (xor_self m)
+mask_of zero true h = xor_zero_l 18446744073709551615
+mask_of (suc m) true h = let q : (suc m + 18446744073709551615) % 18446744073709551616 ≡ m = omega arith in rw q
+mask_of m false h = let q : (m + 18446744073709551616) % 18446744073709551616 ≡ m = omega arith in rw q (xor_self m)
 
 -- ---- a word cut after its first zero byte
 

@@ -1,5 +1,6 @@
 // Bytes: numbers, copies, name fields, flags and floats, as the reader and the exporter use them. Internal: callers see to
-// the lengths.
+// the lengths. A buffer comes with the place in it and not as its part: contracts speak of the whole buffer, by `splice`, and
+// after a write to a part each caller's proof would have to put the part back.
 #![tactic(auto)]
 
 ghost use Rattle.std.specs.Prelude.{◌≡◌, ◌+◌, ◌<◌, ◌≤◌, min, max, true, not, ◌&&◌, map, length, take, drop, replicate, if◌then◌else◌, ◌==◌, from_bits, to_bits};
@@ -14,22 +15,23 @@ ghost use Rattle.vmd_bytes.specs.Words.{digits, zeros, up_to};
 
 // ---- numbers
 
-// A byte as a wider number, with its bound, so that a sum of bytes is known to fit.
-fn wide(b: u8) -> u32
-    ensures { (result ≡ b) × (result < 256) }
-{
-    b as u32
-}
-
 // The little-endian number in the four bytes from `at` on.
 pub fn read_u32_le(bytes: &[u8], at: usize) -> u32
     requires { at + 4 ≤ length bytes.now }
     ensures { result ≡ u32 (drop at bytes.now) }
 {
-    wide(bytes[at])
-        + 256 * wide(bytes[at + 1])
-        + 65536 * wide(bytes[at + 2])
-        + 16777216 * wide(bytes[at + 3])
+    u32::from_le_bytes([bytes[at], bytes[at + 1], bytes[at + 2], bytes[at + 3]])
+}
+
+// Writes the N bytes from `at` on. The compiler makes them one store where N is 4 or 8; `copy_from_slice` it may leave as a
+// call.
+fn put_bytes<const N: usize>(out: &mut [u8], at: usize, bytes: [u8; N])
+    requires { at + N ≤ length out.old }
+    ensures { out.new ≡ splice out.old at bytes.entry }
+{
+    for k in 0..N {
+        out[at + k] = bytes[k];
+    }
 }
 
 // Writes v in four bytes from `at` on, the lowest first.
@@ -37,46 +39,25 @@ pub fn write_u32_le(out: &mut [u8], at: usize, v: u32)
     requires { at + 4 ≤ length out.old }
     ensures { out.new ≡ splice out.old at (u32_bytes v) }
 {
-    out[at] = (v % 256) as u8;
-    out[at + 1] = (v / 256 % 256) as u8;
-    out[at + 2] = (v / 65536 % 256) as u8;
-    out[at + 3] = (v / 16777216 % 256) as u8;
-}
-
-// The larger of two numbers.
-pub fn larger(a: u32, b: u32) -> u32
-    ensures { result ≡ max a b }
-{
-    if a < b { b } else { a }
-}
-
-// The smaller of two numbers.
-pub fn smaller(a: u32, b: u32) -> u32
-    ensures { result ≡ min a b }
-{
-    if a < b { a } else { b }
+    put_bytes(out, at, v.to_le_bytes());
 }
 
 pub fn between(low: u8, high: u8, b: u8) -> bool
     ensures { result ≡ between low high b }
 {
-    if b < low {
-        return false;
-    }
-    b <= high
+    low <= b && b <= high
 }
 
 // ---- copies
 
-// Copies the n bytes of src from `at` on into out from `to` on.
+// Copies the n bytes of src from `at` on into out from `to` on. Not by `copy_from_slice`, which the compiler may leave as a
+// call: then a record's few bytes take longer to save.
 pub fn copy_bytes(src: &[u8], at: usize, out: &mut [u8], to: usize, n: usize)
     requires { (at + n ≤ length src.now) × (to + n ≤ length out.old) }
     ensures { out.new ≡ splice out.old to (run src.now at n) }
 {
-    let mut i = 0;
-    while i < n {
+    for i in 0..n {
         out[to + i] = src[at + i];
-        i += 1;
     }
 }
 
@@ -85,11 +66,7 @@ pub fn fill_zeros(out: &mut [u8], to: usize, n: usize)
     requires { to + n ≤ length out.old }
     ensures { out.new ≡ splice out.old to (replicate n 0) }
 {
-    let mut i = 0;
-    while i < n {
-        out[to + i] = 0;
-        i += 1;
-    }
+    out[to..to + n].fill(0);
 }
 
 // The eight bytes from `at` on as one number. The compiler makes them one load.
@@ -97,9 +74,16 @@ pub fn word_at(src: &[u8], at: usize) -> u64
     requires { at + 8 ≤ length src.now }
     ensures { digits 8 result ≡ run src.now at 8 }
 {
-    let low = read_u32_le(src, at);
-    let high = read_u32_le(src, at + 4);
-    (low as u64) + 0x1_0000_0000 * (high as u64)
+    u64::from_le_bytes([
+        src[at],
+        src[at + 1],
+        src[at + 2],
+        src[at + 3],
+        src[at + 4],
+        src[at + 5],
+        src[at + 6],
+        src[at + 7],
+    ])
 }
 
 // Writes v in eight bytes from `at` on, the lowest first. The compiler makes them one store.
@@ -107,8 +91,7 @@ pub fn put_word(out: &mut [u8], at: usize, v: u64)
     requires { at + 8 ≤ length out.old }
     ensures { out.new ≡ splice out.old at (digits 8 v) }
 {
-    write_u32_le(out, at, (v % 0x1_0000_0000) as u32);
-    write_u32_le(out, at + 4, (v / 0x1_0000_0000) as u32);
+    put_bytes(out, at, v.to_le_bytes());
 }
 
 // Copies eight bytes.
@@ -116,19 +99,7 @@ pub fn copy_word(src: &[u8], at: usize, out: &mut [u8], to: usize)
     requires { (at + 8 ≤ length src.now) × (to + 8 ≤ length out.old) }
     ensures { out.new ≡ splice out.old to (run src.now at 8) }
 {
-    let x = word_at(src, at);
-    put_word(out, to, x);
-}
-
-// Copies four words.
-fn copy_four_words(src: &[u8], at: usize, out: &mut [u8], to: usize)
-    requires { (at + 32 ≤ length src.now) × (to + 32 ≤ length out.old) }
-    ensures { out.new ≡ splice out.old to (run src.now at 32) }
-{
-    copy_word(src, at, out, to);
-    copy_word(src, at + 8, out, to + 8);
-    copy_word(src, at + 16, out, to + 16);
-    copy_word(src, at + 24, out, to + 24);
+    put_word(out, to, word_at(src, at));
 }
 
 // Copies the 64 interpolation bytes of a bone by words: the compiler leaves a loop over so few bytes as single bytes.
@@ -136,8 +107,9 @@ pub fn copy_interpolation(src: &[u8], at: usize, out: &mut [u8], to: usize)
     requires { (at + 64 ≤ length src.now) × (to + 64 ≤ length out.old) }
     ensures { out.new ≡ splice out.old to (run src.now at 64) }
 {
-    copy_four_words(src, at, out, to);
-    copy_four_words(src, at + 32, out, to + 32);
+    for k in 0..8 {
+        copy_word(src, at + 8 * k, out, to + 8 * k);
+    }
 }
 
 // Whether the first n bytes of a and of b are the same.
@@ -145,14 +117,7 @@ pub fn same_start(a: &[u8], b: &[u8], n: usize) -> bool
     requires { (n ≤ length a.now) × (n ≤ length b.now) }
     ensures { result ≡ same (take n a.now) (take n b.now) }
 {
-    let mut i = 0;
-    while i < n {
-        if a[i] != b[i] {
-            return false;
-        }
-        i += 1;
-    }
-    true
+    a[..n] == b[..n]
 }
 
 // ---- names
@@ -161,12 +126,10 @@ pub fn same_start(a: &[u8], b: &[u8], n: usize) -> bool
 pub fn trim_fixed_bytes<'a>(bytes: &'a [u8]) -> &'a [u8]
     ensures { result.now ≡ before_zero bytes.now }
 {
-    let mut i = 0;
-    while i < bytes.len() {
+    for i in 0..bytes.len() {
         if bytes[i] == 0 {
             return &bytes[..i];
         }
-        i += 1;
     }
     bytes
 }
@@ -193,17 +156,11 @@ fn zeros_in(x: u64) -> u64
         ^ 0x8080_8080_8080_8080
 }
 
-fn one_if(live: bool) -> u64
-    ensures { result ≡ (if live then 1 else 0) }
-{
-    if live { 1 } else { 0 }
-}
-
 // The bits that stay of a word whose zero bytes are m: those up to the first, or none once the name has ended.
 fn mask(m: u64, live: bool) -> u64
     ensures { result ≡ (if live then up_to 8 m else 0) }
 {
-    m ^ std::num::wrapping_sub_u64(m, one_if(live))
+    m ^ m.wrapping_sub(u64::from(live))
 }
 
 // The eight bytes x of a name field in canonical form. live: the name has not ended before them.
@@ -249,13 +206,11 @@ fn write_name_end(src: &[u8], at: usize, out: &mut [u8], to: usize, n: usize, li
     requires { (at + n ≤ length src.now) × (to + n ≤ length out.old) }
     ensures { out.new ≡ splice out.old to (canonical live (run src.now at n)) }
 {
-    let mut i = 0;
     let mut on = live;
-    while i < n {
+    for i in 0..n {
         let b = src[at + i];
         on = live_after(on, b);
         out[to + i] = kept(on, b);
-        i += 1;
     }
 }
 
@@ -265,15 +220,15 @@ pub fn write_name(src: &[u8], at: usize, out: &mut [u8], to: usize, width: usize
     requires { (at + width ≤ length src.now) × (to + width ≤ length out.old) }
     ensures { out.new ≡ splice out.old to (padded width (before_zero (run src.now at width))) }
 {
-    let mut i = 0;
+    let words = width / 8;
     let mut live = true;
-    while 8 <= width - i {
-        let x = word_at(src, at + i);
-        put_word(out, to + i, canonical_word(x, live));
+    for k in 0..words {
+        let x = word_at(src, at + 8 * k);
+        put_word(out, to + 8 * k, canonical_word(x, live));
         live = live_after_word(live, x);
-        i += 8;
     }
-    write_name_end(src, at + i, out, to + i, width - i, live);
+    let done = 8 * words;
+    write_name_end(src, at + done, out, to + done, width - done, live);
 }
 
 // ---- flags
@@ -285,17 +240,11 @@ pub fn flag_of(b: u8) -> bool
     b != 0
 }
 
-pub fn flag_to_byte(b: bool) -> u8
-    ensures { result ≡ flag_byte b }
-{
-    if b { 1 } else { 0 }
-}
-
 // The byte that is written for a flag: 0 or 1.
 pub fn canonical_flag(b: u8) -> u8
     ensures { result ≡ flag_byte (is_set b) }
 {
-    if b != 0 { 1 } else { 0 }
+    u8::from(b != 0)
 }
 
 // A flag that is true when its byte is 0.
@@ -305,11 +254,11 @@ pub fn inverted_of(b: u8) -> bool
     b == 0
 }
 
-// The byte that is written for such a flag.
+// The byte that is written for such a flag: the same as `canonical_flag`, of the other flag in the format.
 pub fn canonical_inverted(b: u8) -> u8
     ensures { result ≡ inverted_byte (is_zero b) }
 {
-    if b == 0 { 0 } else { 1 }
+    u8::from(b != 0)
 }
 
 // ---- floats
@@ -319,7 +268,7 @@ pub fn float_from_bits(bits: u32) -> f32
     ensures { result ≡ from_bits binary32 bits }
 {
     if 0x7f80_0000 < bits % 0x8000_0000 {
-        return 0.0 / 0.0;
+        return f32::NAN;
     }
     f32::from_bits(bits)
 }
@@ -329,7 +278,7 @@ pub fn float_to_bits(x: f32) -> u32
     requires { finite (to_bits binary32 x) ≡ true }
     ensures { result ≡ to_bits binary32 x }
 {
-    f32::to_bits(x)
+    x.to_bits()
 }
 
 // Whether the bits, without their sign, are below those of infinity.
@@ -339,12 +288,9 @@ pub fn is_finite_bits(bits: u32) -> bool
     bits % 0x8000_0000 < 0x7f80_0000
 }
 
-// Whether x is no infinity and no NaN. Only a NaN differs from itself.
+// Whether x is no infinity and no NaN.
 pub fn is_finite(x: f32) -> bool
     ensures { result ≡ finite (to_bits binary32 x) }
 {
-    if x != x {
-        return false;
-    }
-    is_finite_bits(f32::to_bits(x))
+    !x.is_nan() && is_finite_bits(x.to_bits())
 }

@@ -25,12 +25,12 @@ ghost use Rattle.vmd_form.specs.Canonical.{canonical, first_change};
 ghost use Rattle.vmd_season.specs.Season.{no_takes, with_file, mean};
 
 use vmd_base::VmdManner;
-use vmd_canonical::{VmdCanonical, VmdChange};
-use vmd_reader::{
-    VmdBoneAnswer, VmdCameraAnswer, VmdIkStateAnswer, VmdLightAnswer, VmdLightBitsAnswer,
-    VmdMorphAnswer, VmdOpened, VmdPropertyAnswer, VmdPropertyStep, VmdSelfShadowAnswer,
-};
+use vmd_check_columns::{VmdBoneColumns, VmdMorphColumns};
+use vmd_check_tables::VmdNameTable;
+use vmd_checks::VmdParts;
 use vmd_season::VmdSeason;
+use vmd_slots::VmdSlot;
+use vmd_split::{VmdLentBones, VmdLentMorphs, VmdLentRecords};
 
 // ---- opening
 
@@ -52,17 +52,10 @@ fn parse_in(
         × (scratch.new ≡ scratch_after (manner_of manner) file.now scratch.old) }
 {
     match vmd_reader::open_file(file, manner, scratch) {
-        VmdOpened::Refused(k) => k.number(),
-        VmdOpened::Opened(o) => {
+        Err(k) => k.number(),
+        Ok(o) => {
             let s = o.sections;
-            *counts = [
-                s.bones.count,
-                s.morphs.count,
-                s.cameras.count,
-                s.lights.count,
-                s.self_shadows.count,
-                s.properties.count,
-            ];
+            *counts = s.counts().slot();
             *places = [
                 s.bones.place as u64,
                 s.morphs.place as u64,
@@ -127,22 +120,8 @@ pub extern "C" fn vmd_bone_frame(
         (result ≡ status answer)
         × (fields.new ≡ slot_after fields.old bone_words answer) }
 {
-    match vmd_reader::bone_frame(file, vmd_slots::opening_of(counts, places), i) {
-        VmdBoneAnswer::Refused(k) => k.number(),
-        VmdBoneAnswer::Found(x) => {
-            *fields = [
-                x.frame,
-                x.translation_x,
-                x.translation_y,
-                x.translation_z,
-                x.rotation_x,
-                x.rotation_y,
-                x.rotation_z,
-                x.rotation_w,
-            ];
-            0
-        }
-    }
+    let opening = vmd_slots::opening_of(counts, places);
+    vmd_slots::report(vmd_reader::bone_frame(file, opening, i), fields)
 }
 
 #[unsafe(no_mangle)]
@@ -157,13 +136,8 @@ pub extern "C" fn vmd_morph_frame(
         (result ≡ status answer)
         × (fields.new ≡ slot_after fields.old morph_words answer) }
 {
-    match vmd_reader::morph_frame(file, vmd_slots::opening_of(counts, places), i) {
-        VmdMorphAnswer::Refused(k) => k.number(),
-        VmdMorphAnswer::Found(x) => {
-            *fields = [x.frame, x.weight];
-            0
-        }
-    }
+    let opening = vmd_slots::opening_of(counts, places);
+    vmd_slots::report(vmd_reader::morph_frame(file, opening, i), fields)
 }
 
 #[unsafe(no_mangle)]
@@ -178,25 +152,8 @@ pub extern "C" fn vmd_camera_frame(
         (result ≡ status answer)
         × (fields.new ≡ slot_after fields.old camera_words answer) }
 {
-    match vmd_reader::camera_frame(file, vmd_slots::opening_of(counts, places), i) {
-        VmdCameraAnswer::Refused(k) => k.number(),
-        VmdCameraAnswer::Found(x) => {
-            let perspective = vmd_slots::wide(vmd_bytes::flag_to_byte(x.perspective));
-            *fields = [
-                x.frame,
-                x.distance,
-                x.position_x,
-                x.position_y,
-                x.position_z,
-                x.rotation_x,
-                x.rotation_y,
-                x.rotation_z,
-                x.fov,
-                perspective,
-            ];
-            0
-        }
-    }
+    let opening = vmd_slots::opening_of(counts, places);
+    vmd_slots::report(vmd_reader::camera_frame(file, opening, i), fields)
 }
 
 #[unsafe(no_mangle)]
@@ -214,8 +171,8 @@ pub extern "C" fn vmd_light_frame(
         × (values.new ≡ slot_after values.old light_values answer) }
 {
     match vmd_reader::light_frame(file, vmd_slots::opening_of(counts, places), i) {
-        VmdLightAnswer::Refused(k) => k.number(),
-        VmdLightAnswer::Found(x) => {
+        Err(k) => k.number(),
+        Ok(x) => {
             *frame = x.frame;
             *values = [
                 x.color_r,
@@ -242,21 +199,8 @@ pub extern "C" fn vmd_light_frame_bits(
         (result ≡ status answer)
         × (fields.new ≡ slot_after fields.old light_words answer) }
 {
-    match vmd_reader::light_frame_bits(file, vmd_slots::opening_of(counts, places), i) {
-        VmdLightBitsAnswer::Refused(k) => k.number(),
-        VmdLightBitsAnswer::Found(x) => {
-            *fields = [
-                x.frame,
-                x.color_r,
-                x.color_g,
-                x.color_b,
-                x.direction_x,
-                x.direction_y,
-                x.direction_z,
-            ];
-            0
-        }
-    }
+    let opening = vmd_slots::opening_of(counts, places);
+    vmd_slots::report(vmd_reader::light_frame_bits(file, opening, i), fields)
 }
 
 #[unsafe(no_mangle)]
@@ -271,14 +215,8 @@ pub extern "C" fn vmd_self_shadow_frame(
         (result ≡ status answer)
         × (fields.new ≡ slot_after fields.old self_shadow_words answer) }
 {
-    match vmd_reader::self_shadow_frame(file, vmd_slots::opening_of(counts, places), i) {
-        VmdSelfShadowAnswer::Refused(k) => k.number(),
-        VmdSelfShadowAnswer::Found(x) => {
-            let mode = vmd_slots::wide(x.mode);
-            *fields = [x.frame, mode, x.distance];
-            0
-        }
-    }
+    let opening = vmd_slots::opening_of(counts, places);
+    vmd_slots::report(vmd_reader::self_shadow_frame(file, opening, i), fields)
 }
 
 #[unsafe(no_mangle)]
@@ -294,13 +232,11 @@ pub extern "C" fn vmd_property_frame(
         (result ≡ status answer)
         × (fields.new ≡ slot_after fields.old property_words answer) }
 {
-    match vmd_reader::property_frame(file, vmd_slots::opening_of(counts, places), scratch, i) {
-        VmdPropertyAnswer::Refused(k) => k.number(),
-        VmdPropertyAnswer::Found(x) => {
-            *fields = vmd_slots::property_words(x);
-            0
-        }
-    }
+    let opening = vmd_slots::opening_of(counts, places);
+    vmd_slots::report(
+        vmd_reader::property_frame(file, opening, scratch, i),
+        fields,
+    )
 }
 
 #[unsafe(no_mangle)]
@@ -316,9 +252,9 @@ pub extern "C" fn vmd_property_frame_at(
         × (next.new ≡ slot_after next.old (λ x. x.next) answer) }
 {
     match vmd_reader::property_frame_at(file, place as usize) {
-        VmdPropertyStep::Refused(k) => k.number(),
-        VmdPropertyStep::Found { frame, next: after } => {
-            *fields = vmd_slots::property_words(frame);
+        Err(k) => k.number(),
+        Ok((frame, after)) => {
+            *fields = frame.slot();
             *next = after as u64;
             0
         }
@@ -339,13 +275,8 @@ pub extern "C" fn vmd_ik_state(
         (result ≡ status answer)
         × (enabled.new ≡ slot_after enabled.old (λ k. flag_byte k.enabled) answer) }
 {
-    match vmd_reader::ik_state(file, vmd_slots::opening_of(counts, places), scratch, i, j) {
-        VmdIkStateAnswer::Refused(k) => k.number(),
-        VmdIkStateAnswer::Found(x) => {
-            *enabled = vmd_slots::wide(vmd_bytes::flag_to_byte(x.enabled));
-            0
-        }
-    }
+    let opening = vmd_slots::opening_of(counts, places);
+    vmd_slots::report(vmd_reader::ik_state(file, opening, scratch, i, j), enabled)
 }
 
 // ---- names and interpolation bytes
@@ -361,11 +292,7 @@ pub extern "C" fn vmd_bone_name(
     ensures { let p = (scan_at counts.now places.now).bones in
         part.new ≡ part_words (part_in (record_place 111 p i file.now) 0 (or_empty (map_answer (λ x. x.name) (fetch bone p i file.now)))) }
 {
-    *part = vmd_slots::part_words(vmd_reader::bone_name_part(
-        file,
-        vmd_slots::opening_of(counts, places),
-        i,
-    ));
+    *part = vmd_reader::bone_name_part(file, vmd_slots::opening_of(counts, places), i).slot();
 }
 
 #[unsafe(no_mangle)]
@@ -379,11 +306,7 @@ pub extern "C" fn vmd_morph_name(
     ensures { let p = (scan_at counts.now places.now).morphs in
         part.new ≡ part_words (part_in (record_place 23 p i file.now) 0 (or_empty (map_answer (λ x. x.name) (fetch morph p i file.now)))) }
 {
-    *part = vmd_slots::part_words(vmd_reader::morph_name_part(
-        file,
-        vmd_slots::opening_of(counts, places),
-        i,
-    ));
+    *part = vmd_reader::morph_name_part(file, vmd_slots::opening_of(counts, places), i).slot();
 }
 
 #[unsafe(no_mangle)]
@@ -399,20 +322,20 @@ pub extern "C" fn vmd_ik_name(
     ensures { let p = (scan_at counts.now places.now).properties in
         part.new ≡ part_words (part_in (ik_place p scratch.now i j file.now) 0 (or_empty (map_answer (λ x. x.name) (fetch_ik_state p scratch.now i j file.now)))) }
 {
-    *part = vmd_slots::part_words(vmd_reader::ik_name_part(
+    *part = vmd_reader::ik_name_part(
         file,
         vmd_slots::opening_of(counts, places),
         scratch,
         i,
         j,
-    ));
+    ).slot();
 }
 
 #[unsafe(no_mangle)]
 pub extern "C" fn vmd_model_name(file: &[u8], part: &mut [u64; 2])
     ensures { part.new ≡ part_words (file_part 30 (length (model_of file.now))) }
 {
-    *part = vmd_slots::part_words(vmd_reader::model_part(file));
+    *part = vmd_reader::model_part(file).slot();
 }
 
 #[unsafe(no_mangle)]
@@ -426,11 +349,11 @@ pub extern "C" fn vmd_bone_interpolation(
     ensures { let p = (scan_at counts.now places.now).bones in
         part.new ≡ part_words (part_in (record_place 111 p i file.now) 47 (or_empty (map_answer (λ x. x.interpolation) (fetch bone p i file.now)))) }
 {
-    *part = vmd_slots::part_words(vmd_reader::bone_interpolation_part(
+    *part = vmd_reader::bone_interpolation_part(
         file,
         vmd_slots::opening_of(counts, places),
         i,
-    ));
+    ).slot();
 }
 
 #[unsafe(no_mangle)]
@@ -444,11 +367,11 @@ pub extern "C" fn vmd_camera_interpolation(
     ensures { let p = (scan_at counts.now places.now).cameras in
         part.new ≡ part_words (part_in (record_place 61 p i file.now) 32 (or_empty (map_answer (λ x. x.interpolation) (fetch camera p i file.now)))) }
 {
-    *part = vmd_slots::part_words(vmd_reader::camera_interpolation_part(
+    *part = vmd_reader::camera_interpolation_part(
         file,
         vmd_slots::opening_of(counts, places),
         i,
-    ));
+    ).slot();
 }
 
 // ---- saving and joining
@@ -894,17 +817,7 @@ fn is_canonical_in(manner: VmdManner, file: &[u8], slot: &mut u32) -> u32
         (result ≡ status answer)
         × (slot.new ≡ slot_after slot.old flag_byte answer) }
 {
-    match vmd_canonical::is_canonical_file(file, manner) {
-        VmdCanonical::Refused(k) => k.number(),
-        VmdCanonical::Yes => {
-            *slot = 1;
-            0
-        }
-        VmdCanonical::No => {
-            *slot = 0;
-            0
-        }
-    }
+    vmd_slots::report(vmd_canonical::is_canonical_file(file, manner), slot)
 }
 
 #[unsafe(no_mangle)]
@@ -930,17 +843,7 @@ fn first_change_in(manner: VmdManner, file: &[u8], change: &mut [u64; 2]) -> u32
         (result ≡ status answer)
         × (change.new ≡ slot_after change.old change_words answer) }
 {
-    match vmd_canonical::first_file_change(file, manner) {
-        VmdChange::Refused(k) => k.number(),
-        VmdChange::Nowhere => {
-            *change = [0, 0];
-            0
-        }
-        VmdChange::At(n) => {
-            *change = [1, n];
-            0
-        }
-    }
+    vmd_slots::report(vmd_canonical::first_file_change(file, manner), change)
 }
 
 #[unsafe(no_mangle)]
@@ -1000,25 +903,34 @@ pub extern "C" fn vmd_build_size(
         (result ≡ status answer)
         × (size.new ≡ slot_after size.old (λ n. n) answer) }
 {
-    let answer = vmd_parts::build_vmd_size(
+    let parts = VmdParts {
         model_name,
-        bone_name_bytes,
-        bone_name_ends,
-        morph_name_bytes,
-        morph_name_ends,
+        bone_names: VmdNameTable {
+            bytes: bone_name_bytes,
+            ends: bone_name_ends,
+        },
+        morph_names: VmdNameTable {
+            bytes: morph_name_bytes,
+            ends: morph_name_ends,
+        },
         camera_frames,
         light_frames,
         self_shadow_frames,
         property_frames,
-        bone_name_indices,
-        bone_frames,
-        bone_translations_xyz,
-        bone_rotations_xyzw,
-        bone_interpolations,
-        morph_name_indices,
-        morph_frames,
-        morph_weights,
-    );
+        bones: VmdBoneColumns {
+            name_indices: bone_name_indices,
+            frames: bone_frames,
+            translations_xyz: bone_translations_xyz,
+            rotations_xyzw: bone_rotations_xyzw,
+            interpolations: bone_interpolations,
+        },
+        morphs: VmdMorphColumns {
+            name_indices: morph_name_indices,
+            frames: morph_frames,
+            weights: morph_weights,
+        },
+    };
+    let answer = vmd_parts::build_vmd_size(&parts);
     vmd_slots::report_written(answer, size)
 }
 
@@ -1054,26 +966,34 @@ pub extern "C" fn vmd_build_animation_from_parts(
         × (written.new ≡ slot_after written.old (λ n. n) (map_answer length file))
         × (out.new ≡ left out.old file) }
 {
-    let answer = vmd_parts::build_vmd_animation_from_parts(
+    let parts = VmdParts {
         model_name,
-        bone_name_bytes,
-        bone_name_ends,
-        morph_name_bytes,
-        morph_name_ends,
+        bone_names: VmdNameTable {
+            bytes: bone_name_bytes,
+            ends: bone_name_ends,
+        },
+        morph_names: VmdNameTable {
+            bytes: morph_name_bytes,
+            ends: morph_name_ends,
+        },
         camera_frames,
         light_frames,
         self_shadow_frames,
         property_frames,
-        bone_name_indices,
-        bone_frames,
-        bone_translations_xyz,
-        bone_rotations_xyzw,
-        bone_interpolations,
-        morph_name_indices,
-        morph_frames,
-        morph_weights,
-        out,
-    );
+        bones: VmdBoneColumns {
+            name_indices: bone_name_indices,
+            frames: bone_frames,
+            translations_xyz: bone_translations_xyz,
+            rotations_xyzw: bone_rotations_xyzw,
+            interpolations: bone_interpolations,
+        },
+        morphs: VmdMorphColumns {
+            name_indices: morph_name_indices,
+            frames: morph_frames,
+            weights: morph_weights,
+        },
+    };
+    let answer = vmd_parts::build_vmd_animation_from_parts(&parts, out);
     vmd_slots::report_written(answer, written)
 }
 
@@ -1083,7 +1003,7 @@ fn split_sizes_in(manner: VmdManner, file: &[u8], sizes: &mut [u64; 4]) -> u32
     ensures { let answer = split_sizes (manner_of manner) file.now in
         (result ≡ status answer) × (sizes.new ≡ slot_after sizes.old size_words answer) }
 {
-    vmd_slots::report_sizes(vmd_split::split_file_sizes(file, manner), sizes)
+    vmd_slots::report(vmd_split::split_file_sizes(file, manner), sizes)
 }
 
 #[unsafe(no_mangle)]
@@ -1135,27 +1055,36 @@ pub extern "C" fn vmd_split_animation_into_parts(
         bone_interpolations.new morph_name_indices.new morph_frames.new morph_weights.new
         ≡ parts_left lent (split strict file.now lent)) }
 {
+    let mut bones = VmdLentBones {
+        name_bytes: bone_name_bytes,
+        name_ends: bone_name_ends,
+        name_indices: bone_name_indices,
+        frames: bone_frames,
+        translations_xyz: bone_translations_xyz,
+        rotations_xyzw: bone_rotations_xyzw,
+        interpolations: bone_interpolations,
+    };
+    let mut morphs = VmdLentMorphs {
+        name_bytes: morph_name_bytes,
+        name_ends: morph_name_ends,
+        name_indices: morph_name_indices,
+        frames: morph_frames,
+        weights: morph_weights,
+    };
+    let mut records = VmdLentRecords {
+        cameras: camera_frames,
+        lights: light_frames,
+        self_shadows: self_shadow_frames,
+        properties: property_frames,
+    };
     let answer = vmd_split::split_file(
         file,
         VmdManner::Strict,
-        bone_name_bytes,
-        bone_name_ends,
-        morph_name_bytes,
-        morph_name_ends,
-        camera_frames,
-        light_frames,
-        self_shadow_frames,
-        property_frames,
-        bone_name_indices,
-        bone_frames,
-        bone_translations_xyz,
-        bone_rotations_xyzw,
-        bone_interpolations,
-        morph_name_indices,
-        morph_frames,
-        morph_weights,
+        &mut bones,
+        &mut morphs,
+        &mut records,
     );
-    vmd_slots::report_sizes(answer, sizes)
+    vmd_slots::report(answer, sizes)
 }
 
 #[unsafe(no_mangle)]
@@ -1191,27 +1120,36 @@ pub extern "C" fn vmd_split_animation_into_parts_lenient(
         bone_interpolations.new morph_name_indices.new morph_frames.new morph_weights.new
         ≡ parts_left lent (split lenient file.now lent)) }
 {
+    let mut bones = VmdLentBones {
+        name_bytes: bone_name_bytes,
+        name_ends: bone_name_ends,
+        name_indices: bone_name_indices,
+        frames: bone_frames,
+        translations_xyz: bone_translations_xyz,
+        rotations_xyzw: bone_rotations_xyzw,
+        interpolations: bone_interpolations,
+    };
+    let mut morphs = VmdLentMorphs {
+        name_bytes: morph_name_bytes,
+        name_ends: morph_name_ends,
+        name_indices: morph_name_indices,
+        frames: morph_frames,
+        weights: morph_weights,
+    };
+    let mut records = VmdLentRecords {
+        cameras: camera_frames,
+        lights: light_frames,
+        self_shadows: self_shadow_frames,
+        properties: property_frames,
+    };
     let answer = vmd_split::split_file(
         file,
         VmdManner::Lenient,
-        bone_name_bytes,
-        bone_name_ends,
-        morph_name_bytes,
-        morph_name_ends,
-        camera_frames,
-        light_frames,
-        self_shadow_frames,
-        property_frames,
-        bone_name_indices,
-        bone_frames,
-        bone_translations_xyz,
-        bone_rotations_xyzw,
-        bone_interpolations,
-        morph_name_indices,
-        morph_frames,
-        morph_weights,
+        &mut bones,
+        &mut morphs,
+        &mut records,
     );
-    vmd_slots::report_sizes(answer, sizes)
+    vmd_slots::report(answer, sizes)
 }
 
 // ---- season figures
@@ -1239,5 +1177,5 @@ pub extern "C" fn vmd_season_mean(figures: &[u64; 11], numbers: &mut [u64; 2])
 {
     let none = [0u32; 12];
     let m = vmd_slots::season_of(&none, figures).mean();
-    *numbers = [m.quotient, m.remainder];
+    *numbers = m.slot();
 }

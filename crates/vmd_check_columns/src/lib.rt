@@ -1,75 +1,162 @@
 // Checks of columns: their lengths, the counts, and each bone's and morph's name index and floats. Internal.
 #![tactic(auto)]
 
-ghost use Rattle.std.specs.Prelude.{◌≡◌, true, ◌+◌, ◌*◌, ◌≤◌, ◌<◌, length, take, drop, eqb};
-ghost use Rattle.vmd_format.specs.Parts.{each, frames, all_finite, upto};
+ghost use Rattle.std.specs.Prelude.{◌≡◌, ◌+◌, ◌*◌, ◌≤◌, ◌<◌, ◌↔◌, length, eqb, ltb, IsTrue, slice_index, EachIndex};
+ghost use Rattle.vmd_format.specs.Refusal.{name_index_too_large};
+ghost use Rattle.vmd_format.specs.Parts.{need, each, all_finite, upto};
 ghost use Rattle.vmd_names.specs.Meaning.{check_of};
 ghost use Rattle.vmd_check_columns.specs.Meaning.{bits};
 ghost use Rattle.vmd_check_columns.specs.Stages.{bone_columns, morph_columns, columns_right, counts_right, bone_right, morph_right};
 
 use vmd_base::VmdRefusal;
-use vmd_names::Check;
+use vmd_names::{check_each, need};
+
+// A section has no more records than its count can say.
+const LARGEST_COUNT: usize = 0xffff_ffff;
 
 // ---- columns
+
+// The fields of bones, each field for all bones in their order: 3, 4 and 64 values of a bone in the last three columns. Columns
+// side by side, as C lends them.
+#[derive(Clone, Copy)]
+pub struct VmdBoneColumns<'a> {
+    pub name_indices: &'a [u32],
+    pub frames: &'a [u32],
+    pub translations_xyz: &'a [f32],
+    pub rotations_xyzw: &'a [f32],
+    pub interpolations: &'a [u8],
+}
+
+// The same of morphs.
+#[derive(Clone, Copy)]
+pub struct VmdMorphColumns<'a> {
+    pub name_indices: &'a [u32],
+    pub frames: &'a [u32],
+    pub weights: &'a [f32],
+}
 
 // Whether a length is k times n. Dividing keeps within the range of lengths.
 fn is_times(len: usize, k: usize, n: usize) -> bool
     requires { 0 < k }
     ensures { result ≡ eqb len (k * n) }
 {
-    if len % k != 0 {
-        return false;
-    }
-    len / k == n
+    len % k == 0 && len / k == n
 }
 
-fn bone_columns_agree(
-    bones: usize,
-    frames: usize,
-    translations: usize,
-    rotations: usize,
-    interpolations: usize,
-) -> bool
-    ensures { result ≡ bone_columns bones frames translations rotations interpolations }
+// Whether the floats are finite.
+fn floats_finite(xs: &[f32]) -> bool
+    ensures { result ≡ all_finite (bits xs.now) }
 {
-    if frames != bones {
-        return false;
-    }
-    if is_times(translations, 3, bones) {
-        if is_times(rotations, 4, bones) {
-            return is_times(interpolations, 64, bones);
+    for x in xs {
+        if !vmd_bytes::is_finite(*x) {
+            return false;
         }
     }
-    false
+    true
 }
 
-fn morph_columns_agree(morphs: usize, frames: usize, weights: usize) -> bool
-    ensures { result ≡ morph_columns morphs frames weights }
+// An index among so many names.
+fn index_check(index: u32, names: usize) -> Result<(), VmdRefusal>
+    ensures { check_of result ≡ need (ltb index names) name_index_too_large }
 {
-    if frames != morphs {
-        return false;
-    }
-    weights == morphs
+    need((index as usize) < names, VmdRefusal::NameIndexTooLarge)
 }
 
-pub fn columns_check(
-    bones: usize,
-    bone_frames: usize,
-    translations: usize,
-    rotations: usize,
-    interpolations: usize,
-    morphs: usize,
-    morph_frames: usize,
-    weights: usize,
-) -> Check
-    ensures { check_of result ≡ columns_right bones bone_frames translations rotations interpolations morphs morph_frames weights }
-{
-    if bone_columns_agree(bones, bone_frames, translations, rotations, interpolations) {
-        if morph_columns_agree(morphs, morph_frames, weights) {
-            return Check::Passes;
-        }
+impl<'a> VmdBoneColumns<'a> {
+    // How many bones there are.
+    pub fn len(&self) -> usize
+        ensures { result ≡ length self.now.name_indices.now }
+    {
+        let bones = self.name_indices;
+        bones.len()
     }
-    Check::Fails(VmdRefusal::ColumnsDisagree)
+
+    #[tactic(auto, unfolding(crate::specs::Stages::bone_columns))]
+    fn lengths_agree(&self) -> bool
+        ensures { result ≡ bone_columns (length self.now.name_indices.now) (length self.now.frames.now) (length self.now.translations_xyz.now)
+            (length self.now.rotations_xyzw.now) (length self.now.interpolations.now) }
+    {
+        let n = self.len();
+        self.frames.len() == n
+            && is_times(self.translations_xyz.len(), 3, n)
+            && is_times(self.rotations_xyzw.len(), 4, n)
+            && is_times(self.interpolations.len(), 64, n)
+    }
+
+    // A bone's name index, and then its floats.
+    fn bone_check(&self, names: usize, i: usize) -> Result<(), VmdRefusal>
+        requires { (i < length self.now.name_indices.now) × (3 * i + 3 ≤ length self.now.translations_xyz.now) × (4 * i + 4 ≤ length self.now.rotations_xyzw.now) }
+        ensures { check_of result ≡ bone_right self.now.name_indices.now names (bits self.now.translations_xyz.now) (bits self.now.rotations_xyzw.now) i }
+    {
+        index_check(self.name_indices[i], names)?;
+        let translation = &self.translations_xyz[3 * i..3 * i + 3];
+        let rotation = &self.rotations_xyzw[4 * i..4 * i + 4];
+        need(
+            floats_finite(translation) && floats_finite(rotation),
+            VmdRefusal::NotFinite,
+        )
+    }
+
+    // The bones in turn.
+    pub fn check(&self, names: usize) -> Result<(), VmdRefusal>
+        requires { (length self.now.translations_xyz.now ≡ 3 * length self.now.name_indices.now) × (length self.now.rotations_xyzw.now ≡ 4 * length self.now.name_indices.now) }
+        ensures { check_of result ≡ each (bone_right self.now.name_indices.now names (bits self.now.translations_xyz.now) (bits self.now.rotations_xyzw.now))
+            (upto 0 (length self.now.name_indices.now)) }
+    {
+        check_each(self.len(), |i| self.bone_check(names, i))
+    }
+}
+
+impl<'a> VmdMorphColumns<'a> {
+    // How many morphs there are.
+    pub fn len(&self) -> usize
+        ensures { result ≡ length self.now.name_indices.now }
+    {
+        let morphs = self.name_indices;
+        morphs.len()
+    }
+
+    #[tactic(auto, unfolding(crate::specs::Stages::morph_columns))]
+    fn lengths_agree(&self) -> bool
+        ensures { result ≡ morph_columns (length self.now.name_indices.now) (length self.now.frames.now) (length self.now.weights.now) }
+    {
+        self.frames.len() == self.len() && self.weights.len() == self.len()
+    }
+
+    // A morph's name index, and then its weight.
+    fn morph_check(&self, names: usize, i: usize) -> Result<(), VmdRefusal>
+        requires { (i < length self.now.name_indices.now) × (i < length self.now.weights.now) }
+        ensures { check_of result ≡ morph_right self.now.name_indices.now names (bits self.now.weights.now) i }
+    {
+        index_check(self.name_indices[i], names)?;
+        need(vmd_bytes::is_finite(self.weights[i]), VmdRefusal::NotFinite)
+    }
+
+    // The morphs in turn.
+    pub fn check(&self, names: usize) -> Result<(), VmdRefusal>
+        requires { length self.now.weights.now ≡ length self.now.name_indices.now }
+        ensures { check_of result ≡ each (morph_right self.now.name_indices.now names (bits self.now.weights.now)) (upto 0 (length self.now.name_indices.now)) }
+    {
+        check_each(self.len(), |i| self.morph_check(names, i))
+    }
+}
+
+#[tactic(auto, unfolding(crate::specs::Stages::columns_right))]
+pub fn columns_check(bones: &VmdBoneColumns, morphs: &VmdMorphColumns) -> Result<(), VmdRefusal>
+    ensures { check_of result ≡ columns_right (length bones.now.name_indices.now) (length bones.now.frames.now) (length bones.now.translations_xyz.now)
+        (length bones.now.rotations_xyzw.now) (length bones.now.interpolations.now)
+        (length morphs.now.name_indices.now) (length morphs.now.frames.now) (length morphs.now.weights.now) }
+{
+    need(
+        bones.lengths_agree() && morphs.lengths_agree(),
+        VmdRefusal::ColumnsDisagree,
+    )
+}
+
+fn all_fit(counts: &[usize]) -> bool
+    ensures { IsTrue result ↔ EachIndex counts.now (λ k. slice_index counts.now k ≤ 4294967295) }
+{
+    counts.iter().all(|n| *n <= LARGEST_COUNT)
 }
 
 // The number of records in each section fits its count.
@@ -80,115 +167,9 @@ pub fn counts_check(
     lights: usize,
     self_shadows: usize,
     properties: usize,
-) -> Check
+) -> Result<(), VmdRefusal>
     ensures { check_of result ≡ counts_right bones morphs cameras lights self_shadows properties }
 {
-    if 0xffff_ffff < bones {
-        return Check::Fails(VmdRefusal::CountTooLarge);
-    }
-    if 0xffff_ffff < morphs {
-        return Check::Fails(VmdRefusal::CountTooLarge);
-    }
-    if 0xffff_ffff < cameras {
-        return Check::Fails(VmdRefusal::CountTooLarge);
-    }
-    if 0xffff_ffff < lights {
-        return Check::Fails(VmdRefusal::CountTooLarge);
-    }
-    if 0xffff_ffff < self_shadows {
-        return Check::Fails(VmdRefusal::CountTooLarge);
-    }
-    if 0xffff_ffff < properties {
-        return Check::Fails(VmdRefusal::CountTooLarge);
-    }
-    Check::Passes
-}
-
-// Whether n floats of a column from a place on are finite.
-fn floats_finite(xs: &[f32], at: usize, n: usize) -> bool
-    requires { at + n ≤ length xs.now }
-    ensures { result ≡ all_finite (take n (drop at (bits xs.now))) }
-{
-    let mut p = at;
-    let mut left = n;
-    while 0 < left {
-        if vmd_bytes::is_finite(xs[p]) {
-            p += 1;
-            left -= 1;
-        } else {
-            return false;
-        }
-    }
-    true
-}
-
-// A bone's name index, and then its floats.
-fn bone_check(
-    indices: &[u32],
-    names: usize,
-    translations: &[f32],
-    rotations: &[f32],
-    i: usize,
-) -> Check
-    requires { (i < length indices.now) × (3 * i + 3 ≤ length translations.now) × (4 * i + 4 ≤ length rotations.now) }
-    ensures { check_of result ≡ bone_right indices.now names (bits translations.now) (bits rotations.now) i }
-{
-    if names <= indices[i] as usize {
-        return Check::Fails(VmdRefusal::NameIndexTooLarge);
-    }
-    if floats_finite(translations, 3 * i, 3) {
-        if floats_finite(rotations, 4 * i, 4) {
-            return Check::Passes;
-        }
-    }
-    Check::Fails(VmdRefusal::NotFinite)
-}
-
-fn morph_check(indices: &[u32], morph_names: usize, weights: &[f32], i: usize) -> Check
-    requires { (i < length indices.now) × (i < length weights.now) }
-    ensures { check_of result ≡ morph_right indices.now morph_names (bits weights.now) i }
-{
-    if morph_names <= indices[i] as usize {
-        return Check::Fails(VmdRefusal::NameIndexTooLarge);
-    }
-    if vmd_bytes::is_finite(weights[i]) {
-        return Check::Passes;
-    }
-    Check::Fails(VmdRefusal::NotFinite)
-}
-
-// The bones in turn.
-pub fn bones_check(indices: &[u32], names: usize, translations: &[f32], rotations: &[f32]) -> Check
-    requires { (length translations.now ≡ 3 * length indices.now) × (length rotations.now ≡ 4 * length indices.now) }
-    ensures { check_of result ≡ each (bone_right indices.now names (bits translations.now) (bits rotations.now)) (upto 0 (length indices.now)) }
-{
-    let mut i = 0;
-    while i < indices.len() {
-        match bone_check(indices, names, translations, rotations, i) {
-            Check::Fails(k) => {
-                return Check::Fails(k);
-            }
-            Check::Passes => {}
-        }
-        i += 1;
-    }
-    Check::Passes
-}
-
-// The morphs in turn.
-pub fn morphs_check(indices: &[u32], names: usize, weights: &[f32]) -> Check
-    requires { length weights.now ≡ length indices.now }
-    ensures { check_of result ≡ each (morph_right indices.now names (bits weights.now)) (upto 0 (length indices.now)) }
-{
-    let mut i = 0;
-    while i < indices.len() {
-        match morph_check(indices, names, weights, i) {
-            Check::Fails(k) => {
-                return Check::Fails(k);
-            }
-            Check::Passes => {}
-        }
-        i += 1;
-    }
-    Check::Passes
+    let counts = [bones, morphs, cameras, lights, self_shadows, properties];
+    need(all_fit(&counts), VmdRefusal::CountTooLarge)
 }

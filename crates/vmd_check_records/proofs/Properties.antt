@@ -21,8 +21,11 @@ use Rattle.vmd_laws.specs.PlacesLaws.{property_in, frames_in, WalkAgrees, walk_a
 use Rattle.vmd_laws.specs.ScanLaws.{frames_length}
 use Rattle.vmd_laws.specs.WalkLaws.{next_above, reaches_first, frame_more}
 use Rattle.vmd_format.specs.Parts.{Check, passes, fails, ◌next◌, each, at_end, until_end, frames, frames_or_none, properties_of, is_got, ik_check, property_check}
+use Rattle.std.specs.Prelude.{Option, Some, None}
+use Rattle.std.specs.Option.{is_some, unwrap_or}
+use Rattle.vmd_check_records.specs.Meaning.{frames_of}
 use Rattle.vmd_check_records.specs.Stages.{not_whole, whole, counted}
-use Rattle.vmd_names.proofs.Checks.{next_fails, next_on}
+use Rattle.vmd_names.proofs.Checks.{chain_fails, chain_on}
 
 -- ---- one frame
 
@@ -210,15 +213,12 @@ properties_framed s e = go (frames s) (until_framed s (length s) 0 (omega arith)
     go (got l t) a e = a
 
 -- what the count says
-pub counted_not : (x : Step (List Property)) → not_whole ≡ counted x → (false ≡ is_got x) × (0 ≡ length (frames_or_none x))
+pub counted_says : (r : Option ℕ) (x : Step (List Property)) → frames_of r ≡ counted x → (is_some r ≡ is_got x) × (unwrap_or r 0 ≡ length (frames_or_none x))
 unfolding counted is_got frames_or_none
-counted_not (refused k) e = (refl, refl)
-counted_not (got l t) e = let z : ◌≡◌ {A = ℕ} 0 1 = cc in absurd (omega arith)
-
-pub counted_whole : (x : Step (List Property)) (n : ℕ) → whole n ≡ counted x → (true ≡ is_got x) × (n ≡ length (frames_or_none x))
-unfolding counted is_got frames_or_none
-counted_whole (refused k) n e = let z : ◌≡◌ {A = ℕ} 0 1 = cc in absurd (omega arith)
-counted_whole (got l t) n e = (refl, (cc))
+counted_says None (refused k) e = (refl, refl)
+counted_says None (got l t) e = let z : ◌≡◌ {A = ℕ} 0 1 = cc in absurd (omega arith)
+counted_says (Some n) (refused k) e = let z : ◌≡◌ {A = ℕ} 0 1 = cc in absurd (omega arith)
+counted_says (Some n) (got l t) e = (refl, (cc))
 
 -- ---- a loop over the frames by their number
 
@@ -249,13 +249,14 @@ module _ {s : List ℕ} where
       is : c ≡ each ik_check (table ik_state (u32 (drop (at + 5) s)) (drop (at + 9) s))
       is = e ∙ ap (λ i. each ik_check (table ik_state i (drop (at + 9) s))) k
 
-      pub framing_fails : {j : Refusal} → c ≡ fails j → fails j ≡ each property_check (properties_of s)
-      framing_fails q = sym (next_fails _ (sym is ∙ q)) ∙ sym turns ∙ g.rest
+    module _ {n : ℕ} (k : n ≡ u32 (drop (at + 5) s)) where
+      pub framing_fails : {j : Refusal} → fails j ≡ each ik_check (table ik_state n (drop (at + 9) s)) → fails j ≡ each property_check (properties_of s)
+      framing_fails e = chain_fails _ (is k e) ∙ sym turns ∙ g.rest
 
-      pub framing_turn : {p : ℕ} → c ≡ passes → p ≡ next_frame s at → Framing s p (left - 1)
-      framing_turn q f = record {
-        reaches = rw f (reaches_first s left at h g.reaches).1;
-        rest = rw f (sym (next_on _ (sym is ∙ q)) ∙ sym turns ∙ g.rest);
+      pub framing_turn : {p m : ℕ} → passes ≡ each ik_check (table ik_state n (drop (at + 9) s)) → p ≡ next_frame s at → m ≡ left - 1 → Framing s p m
+      framing_turn e f d = record {
+        reaches = rw (f, d) (reaches_first s left at h g.reaches).1;
+        rest = rw (f, d) (chain_on _ (is k e) refl ∙ sym turns ∙ g.rest);
       }
 
   pub framing_end : {at left : ℕ} → Framing s at left → left ≡ 0 → passes ≡ each property_check (properties_of s)

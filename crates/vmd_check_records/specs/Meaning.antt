@@ -1,8 +1,7 @@
 -- What the count of property frames means. Definitions only.
-use Rattle.vmd_check_records.specs.declared.Frames.{Frames}
-use Rattle.vmd_check_records.specs.declared.Frames.TheVariants.{NotWhole, Whole}
+use Rattle.std.specs.Prelude.{ℕ, Option, Some, None}
 use Rattle.vmd_check_records.specs.Stages.{Counted, not_whole, whole}
 
-abbrev pub frames_of : Frames → Counted
-frames_of NotWhole = not_whole
-frames_of (Whole n) = whole n
+abbrev pub frames_of : Option ℕ → Counted
+frames_of None = not_whole
+frames_of (Some n) = whole n

@@ -1,20 +1,21 @@
-// Checks of record bytes: cameras, lights, self-shadows and property frames, each read as the layouts do. Internal.
+// Checks of record bytes: cameras, lights, self-shadows and property frames, each read as the layouts do. Internal. Bytes and a
+// place stand side by side, as in vmd_bytes.
 #![tactic(auto)]
 
 ghost use Rattle.std.specs.Prelude.{◌≡◌, true, ◌+◌, ◌*◌, ◌≤◌, ◌<◌, length, drop};
 ghost use Rattle.vmd_format.specs.Records.{camera, light, self_shadow, ik_state};
 ghost use Rattle.vmd_format.specs.Read.{table};
 ghost use Rattle.vmd_format.specs.Parts.{each, records_of, camera_check, light_check, self_shadow_check, ik_check, property_check, is_got, frames, properties_of};
-ghost use Rattle.vmd_presence.specs.Presence.{Presence};
 ghost use Rattle.vmd_names.specs.Meaning.{check_of};
 ghost use Rattle.vmd_check_records.specs.Meaning.{frames_of};
 ghost use Rattle.vmd_check_records.specs.Stages.{finite_words, counted};
 
 use vmd_base::VmdRefusal;
-use vmd_names::Check;
+use vmd_names::{check_each, need};
+use vmd_presence::VmdPresence;
 use vmd_records::{
     VmdParsedCameraFrame, VmdParsedIkState, VmdParsedLightFrame, VmdParsedPropertyFrame,
-    VmdParsedSelfShadowFrame,
+    VmdParsedSelfShadowFrame, VmdRecord,
 };
 
 // ---- record bytes
@@ -35,216 +36,146 @@ fn finite_words(bytes: &[u8], at: usize, n: usize) -> bool
     requires { at + n * 4 ≤ length bytes.now }
     ensures { result ≡ finite_words true n (drop at bytes.now) }
 {
-    let mut p = at;
-    let mut left = n;
-    while 0 < left {
-        let bits = vmd_bytes::read_u32_le(bytes, p);
-        if vmd_bytes::is_finite_bits(bits) {
-            p += 4;
-            left -= 1;
-        } else {
+    for i in 0..n {
+        let bits = vmd_bytes::read_u32_le(bytes, at + i * 4);
+        if !vmd_bytes::is_finite_bits(bits) {
             return false;
         }
     }
     true
 }
 
-fn camera_check(bytes: &[u8], at: usize) -> Check
+fn camera_check(bytes: &[u8], at: usize) -> Result<(), VmdRefusal>
     requires { at + 61 ≤ length bytes.now }
     ensures { check_of result ≡ camera_check (camera.decode (drop at bytes.now)) }
 {
-    if finite_words(bytes, at + AFTER_FRAME, CAMERA_FLOATS) {
-        return Check::Passes;
-    }
-    Check::Fails(VmdRefusal::NotFinite)
+    need(
+        finite_words(bytes, at + AFTER_FRAME, CAMERA_FLOATS),
+        VmdRefusal::NotFinite,
+    )
 }
 
-fn light_check(bytes: &[u8], at: usize) -> Check
+fn light_check(bytes: &[u8], at: usize) -> Result<(), VmdRefusal>
     requires { at + 28 ≤ length bytes.now }
     ensures { check_of result ≡ light_check (light.decode (drop at bytes.now)) }
 {
-    if finite_words(bytes, at + AFTER_FRAME, LIGHT_FLOATS) {
-        return Check::Passes;
-    }
-    Check::Fails(VmdRefusal::NotFinite)
+    need(
+        finite_words(bytes, at + AFTER_FRAME, LIGHT_FLOATS),
+        VmdRefusal::NotFinite,
+    )
 }
 
-fn self_shadow_check(bytes: &[u8], at: usize) -> Check
+fn self_shadow_check(bytes: &[u8], at: usize) -> Result<(), VmdRefusal>
     requires { at + 9 ≤ length bytes.now }
     ensures { check_of result ≡ self_shadow_check (self_shadow.decode (drop at bytes.now)) }
 {
-    if finite_words(bytes, at + DISTANCE, 1) {
-        if bytes[at + AFTER_FRAME] <= 2 {
-            return Check::Passes;
-        }
-    }
-    Check::Fails(VmdRefusal::SelfShadowUnfit)
+    need(
+        finite_words(bytes, at + DISTANCE, 1) && bytes[at + AFTER_FRAME] <= 2,
+        VmdRefusal::SelfShadowUnfit,
+    )
 }
 
-// The name of an IK state ends before its first zero byte. words is the presence table, here and below.
-fn ik_check(words: &[u32; vmd_presence::WORDS], bytes: &[u8], at: usize) -> Check
-    requires presence { Presence words.now }
-    requires at_in_bounds { at + 21 ≤ length bytes.now }
+// The name of an IK state ends before its first zero byte.
+fn ik_check(presence: &VmdPresence, bytes: &[u8], at: usize) -> Result<(), VmdRefusal>
+    requires { at + 21 ≤ length bytes.now }
     ensures { check_of result ≡ ik_check (ik_state.decode (drop at bytes.now)) }
 {
-    if vmd_names::good_field(words, &bytes[at..at + VmdParsedIkState::NAME_WIDTH]) {
-        return Check::Passes;
-    }
-    Check::Fails(VmdRefusal::NameNotGood)
+    let field = &bytes[at..at + VmdParsedIkState::NAME_WIDTH];
+    need(
+        vmd_names::good_field(presence, field),
+        VmdRefusal::NameNotGood,
+    )
 }
 
-pub fn cameras_check(bytes: &[u8]) -> Check
+pub fn cameras_check(bytes: &[u8]) -> Result<(), VmdRefusal>
     ensures { check_of result ≡ each camera_check (records_of camera bytes.now) }
 {
-    let mut at = 0;
-    let mut left = bytes.len() / VmdParsedCameraFrame::SIZE;
-    while 0 < left {
-        match camera_check(bytes, at) {
-            Check::Fails(k) => {
-                return Check::Fails(k);
-            }
-            Check::Passes => {}
-        }
-        at += VmdParsedCameraFrame::SIZE;
-        left -= 1;
-    }
-    Check::Passes
+    let n = bytes.len() / VmdParsedCameraFrame::SIZE;
+    check_each(n, |i| camera_check(bytes, i * VmdParsedCameraFrame::SIZE))
 }
 
-pub fn lights_check(bytes: &[u8]) -> Check
+pub fn lights_check(bytes: &[u8]) -> Result<(), VmdRefusal>
     ensures { check_of result ≡ each light_check (records_of light bytes.now) }
 {
-    let mut at = 0;
-    let mut left = bytes.len() / VmdParsedLightFrame::SIZE;
-    while 0 < left {
-        match light_check(bytes, at) {
-            Check::Fails(k) => {
-                return Check::Fails(k);
-            }
-            Check::Passes => {}
-        }
-        at += VmdParsedLightFrame::SIZE;
-        left -= 1;
-    }
-    Check::Passes
+    let n = bytes.len() / VmdParsedLightFrame::SIZE;
+    check_each(n, |i| light_check(bytes, i * VmdParsedLightFrame::SIZE))
 }
 
-pub fn self_shadows_check(bytes: &[u8]) -> Check
+pub fn self_shadows_check(bytes: &[u8]) -> Result<(), VmdRefusal>
     ensures { check_of result ≡ each self_shadow_check (records_of self_shadow bytes.now) }
 {
-    let mut at = 0;
-    let mut left = bytes.len() / VmdParsedSelfShadowFrame::SIZE;
-    while 0 < left {
-        match self_shadow_check(bytes, at) {
-            Check::Fails(k) => {
-                return Check::Fails(k);
-            }
-            Check::Passes => {}
-        }
-        at += VmdParsedSelfShadowFrame::SIZE;
-        left -= 1;
-    }
-    Check::Passes
+    let n = bytes.len() / VmdParsedSelfShadowFrame::SIZE;
+    check_each(n, |i| {
+        self_shadow_check(bytes, i * VmdParsedSelfShadowFrame::SIZE)
+    })
 }
 
-// The names of n IK states one after another.
+// The names of n IK states one after another. Not inlined: the walk over frames keeps its place in a register.
+#[inline(never)]
 fn ik_states_check(
-    words: &[u32; vmd_presence::WORDS],
+    presence: &VmdPresence,
     bytes: &[u8],
     place: usize,
     n: usize,
-) -> Check
-    requires presence { Presence words.now }
-    requires n_in_bounds { place + n * 21 ≤ length bytes.now }
+) -> Result<(), VmdRefusal>
+    requires { place + n * 21 ≤ length bytes.now }
     ensures { check_of result ≡ each ik_check (table ik_state n (drop place bytes.now)) }
 {
-    let mut at = place;
-    let mut left = n;
-    while 0 < left {
-        match ik_check(words, bytes, at) {
-            Check::Fails(k) => {
-                return Check::Fails(k);
-            }
-            Check::Passes => {}
-        }
-        at += VmdParsedIkState::SIZE;
-        left -= 1;
-    }
-    Check::Passes
+    check_each(n, |i| {
+        ik_check(presence, bytes, place + i * VmdParsedIkState::SIZE)
+    })
 }
 
 // ---- property frames
 
-// What a walk over property frames finds: they end with the bytes, or not.
-#[derive(Clone, Copy)]
-pub enum Frames {
-    NotWhole,
-    Whole(usize),
-}
-
-// Over property frames until the bytes are at their end.
-fn count_frames(bytes: &[u8]) -> Frames
+// Over property frames until the bytes are at their end: how many, where the frames end with the bytes.
+fn count_frames(bytes: &[u8]) -> Option<usize>
     ensures { frames_of result ≡ counted (frames bytes.now) }
 {
     let mut at = 0;
     let mut n = 0;
+    // A step is as long as the frame says: no range or chunks have such steps.
     while at < bytes.len() {
         if bytes.len() - at < VmdParsedPropertyFrame::SIZE {
-            return Frames::NotWhole;
+            return None;
         }
         let count = vmd_bytes::read_u32_le(bytes, at + VmdParsedPropertyFrame::IK_COUNT_OFFSET);
         let states = (count as usize) * VmdParsedIkState::SIZE;
         if bytes.len() - at - VmdParsedPropertyFrame::SIZE < states {
-            return Frames::NotWhole;
+            return None;
         }
         at = at + VmdParsedPropertyFrame::SIZE + states;
         n += 1;
     }
-    Frames::Whole(n)
+    Some(n)
 }
 
 pub fn frames_whole(bytes: &[u8]) -> bool
     ensures { result ≡ is_got (frames bytes.now) }
 {
-    match count_frames(bytes) {
-        Frames::NotWhole => false,
-        Frames::Whole(_) => true,
-    }
+    count_frames(bytes).is_some()
 }
 
-// How many property frames there are.
+// How many property frames there are; none where they do not end with the bytes. 0 and no Option: the definition
+// `properties_of` has none there.
 pub fn property_count(bytes: &[u8]) -> usize
     ensures { result ≡ length (properties_of bytes.now) }
 {
-    match count_frames(bytes) {
-        Frames::NotWhole => 0,
-        Frames::Whole(n) => n,
-    }
+    count_frames(bytes).unwrap_or(0)
 }
 
 // The IK names of the property frames in turn.
-pub fn properties_check(words: &[u32; vmd_presence::WORDS], bytes: &[u8]) -> Check
-    requires presence { Presence words.now }
-    requires bytes_value { is_got (frames bytes.now) ≡ true }
+pub fn properties_check(presence: &VmdPresence, bytes: &[u8]) -> Result<(), VmdRefusal>
+    requires { is_got (frames bytes.now) ≡ true }
     ensures { check_of result ≡ each property_check (properties_of bytes.now) }
 {
+    let n = property_count(bytes);
     let mut at = 0;
-    let mut left = property_count(bytes);
-    while 0 < left {
+    for _ in 0..n {
         let states = vmd_bytes::read_u32_le(bytes, at + VmdParsedPropertyFrame::IK_COUNT_OFFSET);
-        match ik_states_check(
-            words,
-            bytes,
-            at + VmdParsedPropertyFrame::SIZE,
-            states as usize,
-        ) {
-            Check::Fails(k) => {
-                return Check::Fails(k);
-            }
-            Check::Passes => {}
-        }
+        let first = at + VmdParsedPropertyFrame::SIZE;
+        ik_states_check(presence, bytes, first, states as usize)?;
         at = vmd_scan::next_property_frame(bytes, at);
-        left -= 1;
     }
-    Check::Passes
+    Ok(())
 }

@@ -12,7 +12,7 @@ use lib.Dec.{leb, eqb}
 use Rattle.vmd_format.specs.Refusal.{Refusal}
 use Rattle.vmd_format.specs.Parts.{Check, passes, fails, ◌next◌, each, names_from, names_of, ends_right, table_right}
 use Rattle.vmd_check_tables.specs.Meaning.{table_of}
-use Rattle.vmd_names.proofs.Checks.{next_fails, next_on}
+use Rattle.vmd_names.proofs.Checks.{chain_fails, chain_on}
 
 -- ---- ends
 
@@ -47,19 +47,18 @@ module _ (n : ℕ) where
 
 -- what holds before each turn of a loop over the ends: those from i on are right just where all are
 pub record Ending (l : List ℕ) (n at i : ℕ) : Type 0 where
-  pub inside : i ≤ length l
   pub whole : ends_right at (drop i l) n ≡ ends_right 0 l n
 
 module _ {l : List ℕ} {n : ℕ} where
   pub ending_start : Ending l n 0 0
-  ending_start = record { inside = omega arith; whole = refl }
+  ending_start = record { whole = refl }
 
   module _ {at i : ℕ} (g : Ending l n at i) where
     pub ending_fails : i < length l → get_or l i 0 < at → false ≡ ends_right 0 l n
     ending_fails h f = sym (ends_turn n l at i h ∙ rw (lt-leb at (get_or l i 0) f)) ∙ g.whole
 
     pub ending_turn : i < length l → at ≤ get_or l i 0 → Ending l n (get_or l i 0) (i + 1)
-    ending_turn h f = record { inside = omega arith; whole = sym (ends_turn n l at i h ∙ rw (le-leb at (get_or l i 0) f)) ∙ g.whole }
+    ending_turn h f = record { whole = sym (ends_turn n l at i h ∙ rw (le-leb at (get_or l i 0) f)) ∙ g.whole }
 
     pub ending_end : length l ≤ i → eqb at n ≡ ends_right 0 l n
     unfolding ends_right
@@ -76,14 +75,13 @@ name_there s at (x ∷ l) (suc i) h = name_there s x l i (omega arith)
 
 -- what holds before each turn of a loop that checks the names from i on
 pub record Naming (f : List ℕ → Check) (s l : List ℕ) (at i : ℕ) : Type 0 where
-  pub inside : i ≤ length l
   pub right : ends_right at (drop i l) (length s) ≡ true
   pub whole : each f (names_from at (drop i l) s) ≡ each f (names_of (table_of s l))
 
 module _ {f : List ℕ → Check} {s l : List ℕ} where
   pub naming_start : table_right (table_of s l) ≡ true → Naming f s l 0 0
   unfolding table_right names_of
-  naming_start h = record { inside = omega arith; right = h; whole = refl }
+  naming_start h = record { right = h; whole = refl }
 
   module _ {at i : ℕ} (g : Naming f s l at i) where
     names_turn : i < length l
@@ -94,15 +92,13 @@ module _ {f : List ℕ → Check} {s l : List ℕ} where
     pub naming_fits : i < length l → (at ≤ get_or l i 0) × (get_or l i 0 ≤ length s)
     naming_fits h = end_between (length s) l at i h g.right
 
-    pub naming_fails : {c : Check} {k : Refusal} → i < length l → c ≡ f (take (get_or l i 0 - at) (drop at s)) → c ≡ fails k
-        → fails k ≡ each f (names_of (table_of s l))
-    naming_fails h e q = sym (next_fails _ (sym e ∙ q)) ∙ sym (names_turn h) ∙ g.whole
+    pub naming_fails : {k : Refusal} → i < length l → fails k ≡ f (take (get_or l i 0 - at) (drop at s)) → fails k ≡ each f (names_of (table_of s l))
+    naming_fails h e = chain_fails _ e ∙ sym (names_turn h) ∙ g.whole
 
-    pub naming_turn : {c : Check} → i < length l → c ≡ f (take (get_or l i 0 - at) (drop at s)) → c ≡ passes → Naming f s l (get_or l i 0) (i + 1)
-    naming_turn h e q = record {
-      inside = omega arith;
+    pub naming_turn : i < length l → passes ≡ f (take (get_or l i 0 - at) (drop at s)) → Naming f s l (get_or l i 0) (i + 1)
+    naming_turn h e = record {
       right = ((and-eq-true_iff (leb at (get_or l i 0)) _).0 (sym (ends_turn (length s) l at i h) ∙ g.right)).1;
-      whole = sym (next_on _ (sym e ∙ q)) ∙ sym (names_turn h) ∙ g.whole;
+      whole = chain_on _ e refl ∙ sym (names_turn h) ∙ g.whole;
     }
 
     pub naming_end : length l ≤ i → passes ≡ each f (names_of (table_of s l))

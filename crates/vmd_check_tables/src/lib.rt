@@ -1,57 +1,57 @@
-// Checks of name tables: whether the ends are right, and the names in turn. Internal: callers see to what a check asks.
+// Name tables: whether the ends are right, and the names in turn. Internal: callers see to what a check asks.
 #![tactic(auto)]
 
-ghost use Rattle.std.specs.Prelude.{◌≡◌, true, ◌+◌, ◌<◌};
+ghost use Rattle.std.specs.Prelude.{◌≡◌, true, ◌+◌, ◌<◌, length};
 ghost use Rattle.vmd_format.specs.Parts.{name_check, table_right, names_of, each};
 ghost use Rattle.vmd_names.specs.Meaning.{check_of};
-ghost use Rattle.vmd_presence.specs.Presence.{Presence};
-ghost use Rattle.vmd_check_tables.specs.Meaning.{table_of};
+ghost use Rattle.vmd_check_tables.specs.Meaning.{table_is};
 
-use vmd_names::Check;
+use vmd_base::VmdRefusal;
+use vmd_presence::VmdPresence;
 
-// ---- name tables
-
-// Whether the ends never fall, and the last is the length of the bytes.
-pub fn table_right(bytes: &[u8], ends: &[u32]) -> bool
-    ensures { result ≡ table_right (table_of bytes.now ends.now) }
-{
-    let mut at: usize = 0;
-    let mut i = 0;
-    while ends.len() > i {
-        let end = ends[i] as usize;
-        if end < at {
-            return false;
-        }
-        at = end;
-        i += 1;
-    }
-    at == bytes.len()
+// The bytes of names one after another, and where each name ends, as C lends them. They are lent before they are checked, so that
+// the ends are right stays a clause where it is needed.
+#[derive(Clone, Copy)]
+pub struct VmdNameTable<'a> {
+    pub bytes: &'a [u8],
+    pub ends: &'a [u32],
 }
 
-// The names of a table in turn. words is the presence table.
-pub fn names_check(
-    words: &[u32; vmd_presence::WORDS],
-    bytes: &[u8],
-    ends: &[u32],
-    width: usize,
-) -> Check
-    requires presence { Presence words.now }
-    requires ends_value { table_right (table_of bytes.now ends.now) ≡ true }
-    ensures { check_of result ≡ each (name_check width) (names_of (table_of bytes.now ends.now)) }
-{
-    let mut at: usize = 0;
-    let mut i = 0;
-    while i < ends.len() {
-        let end = ends[i] as usize;
-        let name = &bytes[at..end];
-        match vmd_names::name_check(words, name, width) {
-            Check::Fails(k) => {
-                return Check::Fails(k);
-            }
-            Check::Passes => {}
-        }
-        at = end;
-        i += 1;
+impl<'a> VmdNameTable<'a> {
+    // How many names there are.
+    pub fn len(&self) -> usize
+        ensures { result ≡ length self.now.ends.now }
+    {
+        self.ends.len()
     }
-    Check::Passes
+
+    // Whether the ends never fall, and the last is the length of the bytes.
+    pub fn is_right(&self) -> bool
+        ensures { result ≡ table_right (table_is self.now) }
+    {
+        let mut at = 0;
+        for end in self.ends {
+            let end = *end as usize;
+            if end < at {
+                return false;
+            }
+            at = end;
+        }
+        at == self.bytes.len()
+    }
+
+    // The names in turn.
+    pub fn names_check(&self, presence: &VmdPresence, width: usize) -> Result<(), VmdRefusal>
+        requires { table_right (table_is self.now) ≡ true }
+        ensures { check_of result ≡ each (name_check width) (names_of (table_is self.now)) }
+    {
+        let mut at = 0;
+        for end in self.ends {
+            let end = *end as usize;
+            let name = &self.bytes[at..end];
+            vmd_names::name_check(presence, name, width)?;
+            at = end;
+        }
+        Ok(())
+    }
 }

@@ -10,7 +10,7 @@ use lib.Ieee.{Float, binary32, to_bits}
 use Rattle.vmd_format.specs.Refusal.{parts_not_whole, columns_disagree}
 use Rattle.vmd_format.specs.Layout.{Layout}
 use Rattle.vmd_laws.specs.PlacesLaws.{table_length}
-use Rattle.vmd_format.specs.Parts.{NameTable, Parts, records_of, frames, properties_of, upto, take_of_parts, Check, passes, ◌next◌, need, each, table_right, is_got, whole_parts, columns_check, counts_check, bone_check, morph_check, parts_check}
+use Rattle.vmd_format.specs.Parts.{NameTable, Parts, records_of, frames, properties_of, upto, take_of_parts, Check, passes, ◌next◌, need, each, table_right, no_bytes_over, is_got, whole_parts, columns_check, counts_check, bone_check, morph_check, parts_check}
 use Rattle.vmd_laws.specs.PartsLaws.{need_passes, next_assoc}
 use Rattle.vmd_laws.specs.SizedLaws.{Sized, camera_sized, light_sized, self_shadow_sized}
 use Rattle.vmd_check_columns.specs.Meaning.{bits}
@@ -60,11 +60,12 @@ pub records_length : {A : Type 0} {K : Layout A} {w : ℕ} → Sized K w → (s 
 unfolding records_of
 records_length {K = K} k s = table_length K (length s / K.size) s ∙ ap (λ i. length s / i) k.size
 
-counts_same : (p : Parts) (n : ℕ) → n ≡ length (properties_of p.properties)
-    → counts_right (length p.bone_name_indices) (length p.morph_name_indices) (length p.cameras / 61) (length p.lights / 28) (length p.self_shadows / 9) n
+counts_same : (p : Parts)
+    → counts_right (length p.bone_name_indices) (length p.morph_name_indices) (length p.cameras / 61) (length p.lights / 28) (length p.self_shadows / 9)
+    (length (properties_of p.properties))
     ≡ counts_check p
 unfolding counts_right counts_check take_of_parts
-counts_same p n e = rw (← records_length camera_sized p.cameras, ← records_length light_sized p.lights, ← records_length self_shadow_sized p.self_shadows, e)
+counts_same p = rw (← records_length camera_sized p.cameras, ← records_length light_sized p.lights, ← records_length self_shadow_sized p.self_shadows)
 
 values_same : (p : Parts)
     → values_right (length p.bone_names.ends) p.bone_name_indices p.bone_translations p.bone_rotations (length p.morph_names.ends) p.morph_name_indices p.morph_weights
@@ -73,17 +74,24 @@ unfolding values_right bone_right morph_right bone_check morph_check
 values_same p = refl
 
 -- the chain of checks that code goes through
-unfoldable pub chain : Parts → ℕ → Check
-chain p n =
+unfoldable pub chain : Parts → Check
+chain p =
     need (all_whole p.bone_names p.morph_names p.cameras p.lights p.self_shadows p.properties) parts_not_whole
     next names_right p.model p.bone_names p.morph_names
     next records_right p.cameras p.lights p.self_shadows p.properties
-    next all_columns (length p.cameras / 61) (length p.lights / 28) (length p.self_shadows / 9) n (length p.bone_names.ends) (length p.morph_names.ends)
+    next all_columns (length p.cameras / 61) (length p.lights / 28) (length p.self_shadows / 9) (length (properties_of p.properties))
+    (length p.bone_names.ends) (length p.morph_names.ends)
     p.bone_name_indices p.bone_frames p.bone_translations p.bone_rotations p.bone_interpolations p.morph_name_indices p.morph_frames p.morph_weights
 
-pub chained : (p : Parts) (n : ℕ) {x : Check} → n ≡ length (properties_of p.properties) → x ≡ chain p n → x ≡ parts_check p
+pub chained : (p : Parts) {x : Check} → x ≡ chain p → x ≡ parts_check p
 unfolding chain names_right records_right all_columns parts_check
-chained p n e h = h ∙ rw (whole_same p, columns_same p, counts_same p n e, values_same p) (simp next_assoc)
+chained p h = h ∙ rw (whole_same p, columns_same p, counts_same p, values_same p) (simp next_assoc)
+
+-- what whole parts are, as code goes
+pub whole_is : (t u : NameTable) (c l s p : List ℕ)
+    → all_whole t u c l s p ≡ (table_right t && table_right u && eqb (length c % 61) 0 && eqb (length l % 28) 0 && eqb (length s % 9) 0 && is_got (frames p))
+unfolding all_whole no_bytes_over
+whole_is t u c l s p = rw (camera_sized.size, light_sized.size, self_shadow_sized.size) (simp and_assoc)
 
 -- what whole parts are
 pub record Whole (t u : NameTable) (c l s p : List ℕ) : Type 0 where

@@ -1,14 +1,12 @@
 -- Which list of a call is which of the parts: seventeen lists, each with another element, so that one out of its place shows.
 -- Floats go in by their bits: 1, -0 and infinity here.
-use Rattle.std.specs.Prelude.{◌≡◌, refl, true, false, [], ◌∷◌, pos}
+use Rattle.std.specs.Prelude.{◌≡◌, refl, true, false, [], ◌∷◌, pos, Ok, Err, Some, None}
 use Rattle.std.specs.Float.{inf, fin}
 use Rattle.std.specs.Float.Ieee.{to_bits}
 use Rattle.vmd_format.specs.Refusal.{name_unfit}
 use Rattle.vmd_format.specs.Parts.{passes, fails}
 use Rattle.vmd_base.specs.declared.VmdRefusal.TheVariants.{NameUnfit}
-use Rattle.vmd_names.specs.declared.Check.TheVariants.{Passes, Fails}
 use Rattle.vmd_names.specs.Meaning.{check_of}
-use Rattle.vmd_check_records.specs.declared.Frames.TheVariants.{NotWhole, Whole}
 use Rattle.vmd_check_records.specs.Stages.{not_whole, whole}
 use Rattle.vmd_check_records.specs.Meaning.{frames_of}
 use Rattle.vmd_checks.specs.Meaning.{parts_of}
@@ -37,5 +35,5 @@ unfolding to_bits
 the_parts = refl
 
 -- what an answer of the code says
-pub checks : (check_of Passes ≡ passes) × (check_of (Fails NameUnfit) ≡ fails name_unfit) × (frames_of NotWhole ≡ not_whole) × (frames_of (Whole 3) ≡ whole 3)
+pub checks : (check_of (Ok tt) ≡ passes) × (check_of (Err NameUnfit) ≡ fails name_unfit) × (frames_of None ≡ not_whole) × (frames_of (Some 3) ≡ whole 3)
 checks = (refl, refl, refl, refl)

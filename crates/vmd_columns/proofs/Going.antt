@@ -1,15 +1,15 @@
 -- Numbers and columns, as code writes them. Assumes nothing.
-use Prim.Native.Nat.{ℕ, zero, suc, ◌+◌, ◌-◌, ◌*◌, ◌≤◌, ◌<◌}
-use mathlib.Core.Path.{◌≡◌, ap, sym, subst, ◌∙◌}
-use mathlib.Core.List.{List, [], ◌∷◌, ◌++◌}
+use Prim.Native.Nat.{ℕ, zero, suc, ◌+◌, ◌*◌, ◌≤◌, ◌<◌}
+use mathlib.Core.Path.{◌≡◌, ap, sym, ◌∙◌}
+use mathlib.Core.List.{List, [], ◌∷◌, ◌++◌, append-nil}
 use native.Mathlib.Numerals.{add-one}
 use native.Mathlib.Omega.{arith}
 use lib.ListN.{length, set, drop}
 use Rattle.vmd_format.specs.Bytes.{u32}
 use Rattle.vmd_bytes.specs.Slices.{splice}
-use Rattle.vmd_bytes.specs.Written.{Rest}
-use Rattle.vmd_bytes.proofs.Laws.{splice_nil, splice_snoc_at}
-use Rattle.vmd_bytes.proofs.Writes.{rest_all, rest_then}
+use Rattle.std.proofs.Common.{append_assoc}
+use Rattle.std.proofs.Math.Nat.{mul-le-mul_left}
+use Rattle.vmd_bytes.proofs.Laws.{splice_nil, splice_snoc_at, splice_append_at}
 use Rattle.vmd_columns.specs.Columns.{numbers_at, column}
 use Rattle.vmd_columns.specs.ColumnLaws.{Wide, numbers_length, column_length}
 
@@ -38,54 +38,32 @@ numbers_turn s l at to i h e f =
 
 -- ---- a column
 
--- What holds before each turn of a loop that writes the cells so far into records of a size: those of the records that are left
--- lie before m, and their cells are to be written here.
-pub record Going (cells : ℕ → List ℕ) (k m w size offset : ℕ) (l whole x : List ℕ) (p q left : ℕ) : Type 0 where
-  pub even : Wide cells k m w
-  pub inside : offset + k ≤ size
-  pub lie : p + size * left ≤ m
-  pub rest : Rest l 0 whole x q (column cells (p + offset) size left)
+-- below n, one k more still lies among n of them
+pub one_more : {i n : ℕ} (k : ℕ) → i < n → k * i + k ≤ k * n
+one_more {i} {n} k h = omega (arith, mul-le-mul_left {m = i + 1} {n = n} k (omega arith))
 
-less_one : (k n : ℕ) → 0 < n → k * n ≡ k + k * (n - 1)
-less_one k n h = let e : n ≡ suc (n - 1) = omega arith in ap (λ i. k * i) e ∙ omega arith
+-- one cell more
+column_snoc : (cells : ℕ → List ℕ) (n at size : ℕ) → column cells at size (suc n) ≡ column cells at size n ++ cells (at + size * n)
+unfolding column
+column_snoc cells zero at size = let e : at + size * 0 ≡ at = omega arith in rw (append-nil, e)
+column_snoc cells (suc n) at size =
+    let e : at + size + size * n ≡ at + size * suc n = omega arith in
+    rw (append_assoc, ← e) (ap (λ (t : List ℕ). cells at ++ t) (column_snoc cells n (at + size) size))
 
-module _ {cells : ℕ → List ℕ} {k m w size offset : ℕ} {l : List ℕ} where
-  pub going_start : (at n : ℕ) → Wide cells k m w → offset + k ≤ size → at + size * n ≤ m → w * n ≤ length l
-      → Going cells k m w size offset l (column cells (at + offset) size n) l at 0 n
-  going_start at n c o h r = record {
-    even = c;
-    inside = o;
-    lie = h;
-    rest = rest_all (record { room = omega (arith, column_length c at offset size n o h) });
-  }
+-- none is written yet
+pub column_start : (cells : ℕ → List ℕ) (at size : ℕ) (l : List ℕ) → l ≡ splice l 0 (column cells at size 0)
+unfolding column
+column_start cells at size l = sym (splice_nil l 0)
 
-  module _ {whole x : List ℕ} {p q left : ℕ} (g : Going cells k m w size offset l whole x p q left) where
-    module _ (h : 0 < left) where
-      -- the next record lies before m, and there is room for its cell
-      pub going_lies : p + size ≤ m
-      going_lies = omega (arith, g.lie, less_one size left h)
-
-      pub going_room : q + w ≤ length x
-      going_room = omega (arith, g.rest.room.room, column_length g.even p offset size left g.inside g.lie, less_one w left h)
-
-      first : Rest l 0 whole x q (cells (p + offset) ++ column cells (p + size + offset) size (left - 1))
-      unfolding column
-      first =
-          let d : left ≡ suc (left - 1) = omega arith in
-          let e : p + offset + size ≡ p + size + offset = omega arith in
-          rw e at (subst (λ i. Rest l 0 whole x q (column cells (p + offset) size i)) d g.rest)
-
-      pub going_turn : {y : List ℕ} → y ≡ splice x q (cells (p + offset))
-          → Going cells k m w size offset l whole y (p + size) (q + w) (left - 1)
-      going_turn e = record {
-        even = g.even;
-        inside = g.inside;
-        lie = omega (arith, g.lie, less_one size left h);
-        rest = rest_then _ first (record { holds = e; ends = ap (λ i. q + i) (sym (g.even.wide (p + offset) (omega (arith, going_lies, g.inside)))) });
-      }
-
-    pub going_end : left ≡ 0 → x ≡ splice l 0 whole
-    unfolding column
-    going_end e =
-        let r : Rest l 0 whole x q [] = rw e at g.rest in
-        sym (splice_nil x q) ∙ r.whole
+-- the cells so far into i records were written, and then the next one's
+pub column_turn : {cells : ℕ → List ℕ} {k m w : ℕ} {x y : List ℕ} → Wide cells k m w
+    → (l : List ℕ) (at offset size i n : ℕ) → i < n → offset + k ≤ size → at + size * n ≤ m → w * n ≤ length l
+    → x ≡ splice l 0 (column cells (at + offset) size i) → y ≡ splice x (w * i) (cells (at + size * i + offset))
+    → y ≡ splice l 0 (column cells (at + offset) size (i + 1))
+column_turn {cells} {w = w} c l at offset size i n h o r f e d =
+    let a : at + size * i + offset ≡ at + offset + size * i = omega arith in
+    let b : 0 + w * i ≤ length l = omega (arith, one_more {i = i} {n = n} w h) in
+    let u : length (column cells (at + offset) size i) ≡ w * i = column_length c at offset size i o (omega (arith, one_more {i = i} {n = n} size h)) in
+    let z : 0 + w * i ≡ w * i = omega arith in
+    let v = rw z at (splice_append_at l 0 (column cells (at + offset) size i) (cells (at + size * i + offset)) (w * i) u b) in
+    d ∙ rw (e, v, a, add-one, column_snoc)

@@ -17,10 +17,8 @@ fn copy_numbers(out: &mut [u32], to: usize, s: &[u8], at: usize, w: usize)
     requires { (at + 4 * w ≤ length s.now) × (to + w ≤ length out.old) }
     ensures { out.new ≡ splice out.old to (numbers_at s.now w at) }
 {
-    let mut i = 0;
-    while i < w {
+    for i in 0..w {
         out[to + i] = vmd_bytes::read_u32_le(s, at + NUMBER_SIZE * i);
-        i += 1;
     }
 }
 
@@ -37,18 +35,13 @@ pub fn write_numbers(
     requires { (at + size * n ≤ length s.now) × (offset + 4 * w ≤ size) × (w * n ≤ length out.old) }
     ensures { out.new ≡ splice out.old 0 (column (numbers_at s.now w) (at + offset) size n) }
 {
-    let mut p = at;
-    let mut q = 0;
-    let mut left = n;
-    while 0 < left {
-        copy_numbers(out, q, s, p + offset, w);
-        p += size;
-        q += w;
-        left -= 1;
+    for i in 0..n {
+        copy_numbers(out, w * i, s, at + size * i + offset, w);
     }
 }
 
-// The interpolation bytes of n records of a size, so far into it.
+// The interpolation bytes of n records of a size, so far into it. One loop with write_numbers would take the items of `out` as a
+// type parameter, and a clause cannot speak of their bytes: `splice` and `column` are of numbers.
 pub fn write_interpolations(
     out: &mut [u8],
     s: &[u8],
@@ -60,13 +53,7 @@ pub fn write_interpolations(
     requires { (at + size * n ≤ length s.now) × (offset + 64 ≤ size) × (64 * n ≤ length out.old) }
     ensures { out.new ≡ splice out.old 0 (column (λ p. run s.now p 64) (at + offset) size n) }
 {
-    let mut p = at;
-    let mut q = 0;
-    let mut left = n;
-    while 0 < left {
-        vmd_bytes::copy_interpolation(s, p + offset, out, q);
-        p += size;
-        q += INTERPOLATION_SIZE;
-        left -= 1;
+    for i in 0..n {
+        vmd_bytes::copy_interpolation(s, at + size * i + offset, out, INTERPOLATION_SIZE * i);
     }
 }

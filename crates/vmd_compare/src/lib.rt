@@ -1,9 +1,12 @@
 // A file compared with its canonical bytes, where they stand: names, flags and the records of a section. Internal: callers see
 // to the lengths. Each comparison gives the place after what it compared, or the first place at which saving would change a
 // byte.
+// A file and a place in it stand beside each other: with both in a value each contract would say besides that the next one has
+// the same file: no plainer.
 #![tactic(auto)]
 
-ghost use Rattle.std.specs.Prelude.{◌≡◌, true, ◌+◌, ◌*◌, ◌≤◌, length, drop, replicate};
+ghost use Rattle.std.specs.Prelude.{ℕ, ◌≡◌, refl, true, List, ◌+◌, ◌*◌, ◌≤◌, length, drop, replicate};
+ghost use Rattle.std.proofs.lemmas.Bool.{leb-true};
 ghost use Rattle.vmd_format.specs.Fetch.{next_frame};
 ghost use Rattle.vmd_format.specs.Read.{table, write_all};
 ghost use Rattle.vmd_format.specs.Take.{property};
@@ -12,18 +15,19 @@ ghost use Rattle.vmd_laws.specs.PlacesLaws.{property_in, frames_in};
 ghost use Rattle.vmd_records.specs.Kinds.{layout, size_of};
 ghost use Rattle.vmd_form.specs.Compare.{compare_at};
 ghost use Rattle.vmd_form.specs.Form.{ZerosAfter};
+ghost use Rattle.vmd_form.specs.RowLaws.{named_length, camera_length, ik_length};
 ghost use Rattle.vmd_form.specs.Rows.{rows, name_field, flag_field, named_row, camera_row, ik_row};
 ghost use Rattle.vmd_compare.specs.Meaning.{compared_is};
 
 use vmd_records::{
     VmdKind, VmdParsedBoneFrame, VmdParsedCameraFrame, VmdParsedIkState, VmdParsedLightFrame,
-    VmdParsedMorphFrame, VmdParsedPropertyFrame, VmdParsedSelfShadowFrame,
+    VmdParsedMorphFrame, VmdParsedPropertyFrame, VmdParsedSelfShadowFrame, VmdRecord,
 };
 
-#[derive(Clone, Copy)]
-pub enum VmdCompared {
-    Same(usize),
-    Differs(usize),
+// The first place at which saving would change a byte.
+#[derive(Clone, Copy, Debug, PartialEq, Eq)]
+pub struct VmdDifference {
+    pub at: usize,
 }
 
 // The name of a bone or a morph, and of an IK state.
@@ -31,54 +35,37 @@ const NAME_WIDTH: usize = VmdParsedBoneFrame::NAME_WIDTH;
 
 const IK_NAME_WIDTH: usize = VmdParsedIkState::NAME_WIDTH;
 
-const PERSPECTIVE: usize = VmdParsedCameraFrame::PERSPECTIVE_OFFSET;
-
-const VISIBLE: usize = VmdParsedPropertyFrame::VISIBLE_OFFSET;
-
-const IK_COUNT: usize = VmdParsedPropertyFrame::IK_COUNT_OFFSET;
-
 // ---- bytes
 
 // Whether these bytes stand at a place; the file may end before them.
-pub fn compare_bytes(file: &[u8], at: usize, bytes: &[u8]) -> VmdCompared
+pub fn compare_bytes(file: &[u8], at: usize, bytes: &[u8]) -> Result<usize, VmdDifference>
     requires { at ≤ length file.now }
     ensures { compared_is result ≡ compare_at file.now at bytes.now }
 {
-    let mut p = at;
-    let mut i = 0;
-    while i < bytes.len() {
-        if file.len() <= p {
-            return VmdCompared::Differs(p);
-        }
-        if file[p] != bytes[i] {
-            return VmdCompared::Differs(p);
-        }
-        p += 1;
-        i += 1;
+    let rest = &file[at..];
+    match rest.iter().zip(bytes).position(|(a, b)| *a != *b) {
+        Some(i) => Err(VmdDifference { at: at + i }),
+        None if rest.len() < bytes.len() => Err(VmdDifference { at: file.len() }),
+        None => Ok(at + bytes.len()),
     }
-    VmdCompared::Same(p)
 }
 
-fn compare_zeros(file: &[u8], at: usize, n: usize) -> VmdCompared
+fn compare_zeros(file: &[u8], at: usize, n: usize) -> Result<usize, VmdDifference>
     requires { at + n ≤ length file.now }
     ensures { compared_is result ≡ compare_at file.now at (replicate n 0) }
 {
-    let mut p = at;
-    let mut left = n;
-    while 0 < left {
-        if file[p] != 0 {
-            return VmdCompared::Differs(p);
-        }
-        p += 1;
-        left -= 1;
+    match file[at..at + n].iter().position(|byte| *byte != 0) {
+        Some(i) => Err(VmdDifference { at: at + i }),
+        None => Ok(at + n),
     }
-    VmdCompared::Same(p)
 }
 
 // ---- names
 
-// A field of any width, byte by byte: zeros after the name.
-pub fn compare_name(file: &[u8], at: usize, width: usize) -> VmdCompared
+// A field of any width, byte by byte: zeros after the name. Loops over records call it for the name that differs alone, and are
+// short without it.
+#[inline(never)]
+pub fn compare_name(file: &[u8], at: usize, width: usize) -> Result<usize, VmdDifference>
     requires { at + width ≤ length file.now }
     ensures { compared_is result ≡ compare_at file.now at (name_field file.now width at) }
 {
@@ -115,147 +102,154 @@ fn is_plain_ik_name(file: &[u8], at: usize) -> bool
     first && last
 }
 
+fn compare_ik_name(file: &[u8], at: usize) -> Result<usize, VmdDifference>
+    requires { at + 20 ≤ length file.now }
+    ensures { compared_is result ≡ compare_at file.now at (name_field file.now 20 at) }
+{
+    if is_plain_ik_name(file, at) {
+        return Ok(at + IK_NAME_WIDTH);
+    }
+    compare_name(file, at, IK_NAME_WIDTH)
+}
+
 // ---- flags
 
 // A flag byte that is 0 or 1 stays, the perspective byte too.
-fn compare_flag(file: &[u8], at: usize) -> VmdCompared
+fn compare_flag(file: &[u8], at: usize) -> Result<usize, VmdDifference>
     requires { at + 1 ≤ length file.now }
     ensures { compared_is result ≡ compare_at file.now at (flag_field file.now at) }
 {
     if 1 < file[at] {
-        return VmdCompared::Differs(at);
+        return Err(VmdDifference { at });
     }
-    VmdCompared::Same(at + 1)
+    Ok(at + 1)
 }
 
 // ---- records
 
+// A kind of record of which saving can change bytes. Lights and self-shadows stay as they are.
+trait VmdComparedRecord: VmdRecord {
+    // What saving makes of the record at a place.
+    ghost saved: { List ℕ → ℕ → List ℕ };
+
+    fn compare(file: &[u8], at: usize) -> Result<usize, VmdDifference>
+        requires { at + Self.SIZE ≤ length file.now }
+        ensures { compared_is result ≡ compare_at file.now at (saved file.now at) };
+
+    ghost saved_length: { (s : List ℕ) (at : ℕ) → at + Self.SIZE ≤ length s → length (saved s at) ≡ Self.SIZE };
+}
+
 // A bone or a morph: a name, and then bytes that stay.
-fn compare_named(file: &[u8], at: usize, size: usize) -> VmdCompared
+fn compare_named(file: &[u8], at: usize, size: usize) -> Result<usize, VmdDifference>
     requires { (15 ≤ size) × (at + size ≤ length file.now) }
     ensures { compared_is result ≡ compare_at file.now at (named_row file.now size at) }
 {
     if is_plain_name(file, at) {
-        return VmdCompared::Same(at + size);
+        return Ok(at + size);
     }
-    match compare_name(file, at, NAME_WIDTH) {
-        VmdCompared::Differs(q) => VmdCompared::Differs(q),
-        VmdCompared::Same(_) => VmdCompared::Same(at + size),
-    }
+    compare_name(file, at, NAME_WIDTH)?;
+    Ok(at + size)
 }
 
-fn compare_named_rows(file: &[u8], at: usize, size: usize, n: usize) -> VmdCompared
-    requires { (15 ≤ size) × (at + n * size ≤ length file.now) }
-    ensures { compared_is result ≡ compare_at file.now at (rows (named_row file.now size) size n at) }
+impl VmdComparedRecord for VmdParsedBoneFrame {
+    ghost saved = { λ s. named_row s 111 };
+
+    fn compare(file: &[u8], at: usize) -> Result<usize, VmdDifference> {
+        compare_named(file, at, VmdParsedBoneFrame::SIZE)
+    }
+
+    ghost saved_length = { λ s at h. named_length s at 111 (leb-true 15 111 refl) h };
+}
+
+impl VmdComparedRecord for VmdParsedMorphFrame {
+    ghost saved = { λ s. named_row s 23 };
+
+    fn compare(file: &[u8], at: usize) -> Result<usize, VmdDifference> {
+        compare_named(file, at, VmdParsedMorphFrame::SIZE)
+    }
+
+    ghost saved_length = { λ s at h. named_length s at 23 (leb-true 15 23 refl) h };
+}
+
+impl VmdComparedRecord for VmdParsedCameraFrame {
+    ghost saved = { camera_row };
+
+    // Only its perspective byte can change.
+    fn compare(file: &[u8], at: usize) -> Result<usize, VmdDifference> {
+        compare_flag(file, at + VmdParsedCameraFrame::PERSPECTIVE_OFFSET)
+    }
+
+    ghost saved_length = { camera_length };
+}
+
+impl VmdComparedRecord for VmdParsedIkState {
+    ghost saved = { ik_row };
+
+    fn compare(file: &[u8], at: usize) -> Result<usize, VmdDifference> {
+        let flag = compare_ik_name(file, at)?;
+        compare_flag(file, flag)
+    }
+
+    ghost saved_length = { λ s at h. ik_length s at };
+}
+
+// n records of such a kind, one after another. Where the next one stands does not wait for the bytes of this one.
+fn compare_rows<T: VmdComparedRecord>(
+    file: &[u8],
+    at: usize,
+    n: usize,
+) -> Result<usize, VmdDifference>
+    requires { at + n * T.SIZE ≤ length file.now }
+    ensures { compared_is result ≡ compare_at file.now at (rows (T.saved file.now) T.SIZE n at) }
 {
     let mut p = at;
-    let mut left = n;
-    while 0 < left {
-        if let VmdCompared::Differs(q) = compare_named(file, p, size) {
-            return VmdCompared::Differs(q);
-        }
-        p += size;
-        left -= 1;
+    for _ in 0..n {
+        T::compare(file, p)?;
+        p += T::SIZE;
     }
-    VmdCompared::Same(p)
+    Ok(p)
 }
 
-// A camera: only its perspective byte can change.
-fn compare_cameras(file: &[u8], at: usize, n: usize) -> VmdCompared
-    requires { at + n * 61 ≤ length file.now }
-    ensures { compared_is result ≡ compare_at file.now at (rows (camera_row file.now) 61 n at) }
-{
-    let mut p = at;
-    let mut left = n;
-    while 0 < left {
-        if let VmdCompared::Differs(q) = compare_flag(file, p + PERSPECTIVE) {
-            return VmdCompared::Differs(q);
-        }
-        p += VmdParsedCameraFrame::SIZE;
-        left -= 1;
-    }
-    VmdCompared::Same(p)
-}
-
-// n records of a kind. No byte of a light or a self-shadow changes.
-pub fn compare_records(file: &[u8], at: usize, kind: VmdKind, n: usize) -> VmdCompared
+// n records of a kind. The match picks a type, which no closure or table could.
+pub fn compare_records(
+    file: &[u8],
+    at: usize,
+    kind: VmdKind,
+    n: usize,
+) -> Result<usize, VmdDifference>
     requires { at + n * size_of kind ≤ length file.now }
     ensures { compared_is result ≡ compare_at file.now at (write_all (layout kind).encode (table (layout kind) n (drop at file.now))) }
 {
     match kind {
-        VmdKind::Bone => compare_named_rows(file, at, VmdParsedBoneFrame::SIZE, n),
-        VmdKind::Morph => compare_named_rows(file, at, VmdParsedMorphFrame::SIZE, n),
-        VmdKind::Camera => compare_cameras(file, at, n),
-        VmdKind::Light => VmdCompared::Same(at + n * VmdParsedLightFrame::SIZE),
-        VmdKind::SelfShadow => VmdCompared::Same(at + n * VmdParsedSelfShadowFrame::SIZE),
+        VmdKind::Bone => compare_rows::<VmdParsedBoneFrame>(file, at, n),
+        VmdKind::Morph => compare_rows::<VmdParsedMorphFrame>(file, at, n),
+        VmdKind::Camera => compare_rows::<VmdParsedCameraFrame>(file, at, n),
+        VmdKind::Light => Ok(at + n * VmdParsedLightFrame::SIZE),
+        VmdKind::SelfShadow => Ok(at + n * VmdParsedSelfShadowFrame::SIZE),
     }
 }
 
 // ---- property frames
 
-fn compare_ik_name(file: &[u8], at: usize) -> VmdCompared
-    requires { at + 20 ≤ length file.now }
-    ensures { compared_is result ≡ compare_at file.now at (name_field file.now 20 at) }
-{
-    if is_plain_ik_name(file, at) {
-        return VmdCompared::Same(at + IK_NAME_WIDTH);
-    }
-    compare_name(file, at, IK_NAME_WIDTH)
-}
-
-fn compare_ik_state(file: &[u8], at: usize) -> VmdCompared
-    requires { at + 21 ≤ length file.now }
-    ensures { compared_is result ≡ compare_at file.now at (ik_row file.now at) }
-{
-    match compare_ik_name(file, at) {
-        VmdCompared::Differs(q) => VmdCompared::Differs(q),
-        VmdCompared::Same(_) => compare_flag(file, at + VmdParsedIkState::ENABLED_OFFSET),
-    }
-}
-
-fn compare_ik_states(file: &[u8], at: usize, n: usize) -> VmdCompared
-    requires { at + n * 21 ≤ length file.now }
-    ensures { compared_is result ≡ compare_at file.now at (rows (ik_row file.now) 21 n at) }
-{
-    let mut p = at;
-    let mut left = n;
-    while 0 < left {
-        if let VmdCompared::Differs(q) = compare_ik_state(file, p) {
-            return VmdCompared::Differs(q);
-        }
-        p += VmdParsedIkState::SIZE;
-        left -= 1;
-    }
-    VmdCompared::Same(p)
-}
-
 // A property frame with its IK states.
-fn compare_property(file: &[u8], at: usize) -> VmdCompared
+fn compare_property(file: &[u8], at: usize) -> Result<usize, VmdDifference>
     requires { next_frame file.now at ≤ length file.now }
     ensures { compared_is result ≡ compare_at file.now at (property.write (property_in file.now at)) }
 {
-    match compare_flag(file, at + VISIBLE) {
-        VmdCompared::Differs(q) => VmdCompared::Differs(q),
-        VmdCompared::Same(_) => {
-            let states = vmd_bytes::read_u32_le(file, at + IK_COUNT);
-            compare_ik_states(file, at + VmdParsedPropertyFrame::SIZE, states as usize)
-        }
-    }
+    compare_flag(file, at + VmdParsedPropertyFrame::VISIBLE_OFFSET)?;
+    let states = vmd_bytes::read_u32_le(file, at + VmdParsedPropertyFrame::IK_COUNT_OFFSET);
+    let place = at + VmdParsedPropertyFrame::SIZE;
+    compare_rows::<VmdParsedIkState>(file, place, states as usize)
 }
 
 // n property frames one after another.
-pub fn compare_properties(file: &[u8], at: usize, n: usize) -> VmdCompared
+pub fn compare_properties(file: &[u8], at: usize, n: usize) -> Result<usize, VmdDifference>
     requires { Reaches file.now n at }
     ensures { compared_is result ≡ compare_at file.now at (write_all property.write (frames_in file.now n at)) }
 {
     let mut p = at;
-    let mut left = n;
-    while 0 < left {
-        if let VmdCompared::Differs(q) = compare_property(file, p) {
-            return VmdCompared::Differs(q);
-        }
-        p = vmd_scan::next_property_frame(file, p);
-        left -= 1;
+    for _ in 0..n {
+        p = compare_property(file, p)?;
     }
-    VmdCompared::Same(p)
+    Ok(p)
 }

@@ -4,8 +4,11 @@ use mathlib.Core.Path.{◌≡◌, refl, ap, sym, ◌∙◌, subst}
 use mathlib.Core.Bool.{Bool, true, false, not}
 use mathlib.Core.List.{List}
 use native.Mathlib.Omega.{arith}
+use mir.Val.{bool_byte}
+use Rattle.std.specs.Prelude.{Option, None, Some, is_some}
+use Rattle.vmd_count.specs.Rowed.{bound}
 use native.Mathlib.Decide.{ℕ_discrete}
-use borrow.Author.Tests.{ltb-true, ltb-false, eqb-true, eqb-false}
+use borrow.Author.Tests.{eq-eqb, ltb-true, ltb-false, eqb-true, eqb-false}
 use lib.ListN.{length, get_or, set, length-set}
 use lib.Dec.{ltb, eqb}
 use lib.Seq.{get_or-set_same, get_or-set_other}
@@ -314,6 +317,9 @@ module _ (f : ℕ → ℕ) where
     (λ z. (d, ltb-false (f x) (f (c - 1)) (sym e ∙ z))),
   )
 
+  pub fresh_first : (b : List ℕ) (j x : ℕ) → j ≡ 0 → Fresh f b j x (eqb j 0)
+  fresh_first b j x e = let q : eqb j 0 ≡ true = eq-eqb j 0 e in rw q (start e)
+
   pub fresh_later : (b : List ℕ) (j x : ℕ) (r : Bool) → ¬ (j ≡ 0) → r ≡ eqb (f (get_or b (j - 1) 0)) (f x) → Fresh f b j x (not r)
   fresh_later b j x true d e = again (omega arith) (eqb-true (f (get_or b (j - 1) 0)) (f x) (sym e))
   fresh_later b j x false d e = other (omega arith) (eqb-false (f (get_or b (j - 1) 0)) (f x) (sym e))
@@ -356,3 +362,33 @@ module _ (f : ℕ → ℕ) where
       go : (b : Bool) → eqb r i ≡ b → Wanted f floor ceil i b
       go true p = wanted x y
       go false p = let d = eqb-false r i p in seen (record { e = r; there = omega arith; is = e })
+
+  -- a floor and a ceiling that are records
+  pub above_record : (g x : ℕ) (r : Bool) → r ≡ ltb (f g) (f x) → (r ≡ true → low f (suc g) ≤ f x) × (r ≡ false → f x < low f (suc g))
+  above_record g x r e =
+      let q : suc g - 1 ≡ g = omega arith in
+      above_some (suc g) x r (λ (z : suc g ≡ 0). omega arith) (rw q e)
+
+  pub below_record : (g x : ℕ) (r : Bool) → r ≡ ltb (f x) (f g)
+      → (r ≡ true → f x < high f (suc g)) × (r ≡ false → ¬ (suc g ≡ 0) × (f (suc g - 1) ≤ f x))
+  below_record g x r e =
+      let q : suc g - 1 ≡ g = omega arith in
+      below_some (suc g) x r (λ (z : suc g ≡ 0). omega arith) (rw q e)
+
+pub step_sum : (on : Bool) (j : ℕ) → j + bool_byte on ≡ step_if on j
+unfolding step_if
+step_sum true j = refl
+step_sum false j = omega arith
+
+-- what `is_none` tells of a floor or a ceiling
+pub bound_none : (o : Option ℕ) (t : Bool) → is_some o ≡ not t → t ≡ true → bound o ≡ 0
+bound_none None t h e = refl
+bound_none (Some g) t h e = absurd cc
+
+pub bound_some : (o : Option ℕ) (t : Bool) → is_some o ≡ not t → t ≡ false → ¬ (bound o ≡ 0)
+bound_some None t h e = absurd cc
+bound_some (Some g) t h e = λ z. omega arith
+
+pub bound_record : (o : Option ℕ) (g : ℕ) → o ≡ Some g → ¬ (bound o ≡ 0)
+bound_record None g e = absurd cc
+bound_record (Some f) g e = λ z. omega arith

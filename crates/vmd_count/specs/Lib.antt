@@ -1,3 +1,4 @@
 pub mod Held
+pub mod Rowed
 pub mod DistinctLaws
 pub mod Examples

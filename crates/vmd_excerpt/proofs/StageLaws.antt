@@ -1,9 +1,10 @@
 -- Laws of an excerpt by where its records stand: its bytes, its length, and what is answered.
-use Rattle.std.specs.Prelude.{ℕ, ◌≤◌, ◌<◌, ◌≡◌, refl, length}
+use Rattle.std.specs.Prelude.{ℕ, ◌≤◌, ◌<◌, ◌≡◌, refl, Bool, true, false, leb, length, replicate}
 use Rattle.std.proofs.Common.{ap, sym, ◌∙◌, arith, le-leb}
 use mathlib.Core.List.{List, ◌++◌, append_assoc}
 use Rattle.std.proofs.lemmas.Bool.{lt-leb}
-use Rattle.vmd_format.specs.Refusal.{Refusal, first_above_last}
+use Rattle.std.proofs.lemmas.List.{length-replicate}
+use Rattle.vmd_format.specs.Refusal.{Refusal, first_above_last, output_too_short}
 use Rattle.vmd_format.specs.Answer.{declined, given, map_answer, unless, within}
 use Rattle.vmd_format.specs.Read.{Manner}
 use Rattle.vmd_format.specs.Take.{newer, write_header, write_sections, write_edition, write_take, take_of}
@@ -71,6 +72,24 @@ module _ (first last : ℕ) (s : List ℕ) (x : Scan) where
   export_room h {out} n e =
       let r = saves_room (write_edition newer (take_in s x)) (scan_length newer (take_in s x) x (scan_counts s x h)) {out = out} n e in
       record { room = omega (arith, r.room, never_longer first last (take_in s x)) }
+
+  -- so it is within a limit where the export is
+  pub export_fits : Scanned s x → (limit n : ℕ)
+      → given n ≡ within limit (file_length newer x.bones.count x.morphs.count x.cameras.count x.lights.count x.self_shadows.count x.properties.count x.ik_states)
+      → given (length bytes) ≡ within limit (length bytes)
+  unfolding within unless
+  export_fits h limit n e =
+      let r = export_room h {out = replicate limit 0} n (rw length-replicate e) in
+      rw (le-leb (length bytes) limit (omega (arith, r.room, length-replicate {A = ℕ} limit 0)))
+
+  -- and where its own length was found to be
+  pub own_fits : (limit n : ℕ) → given n ≡ within limit (length bytes) → given (length bytes) ≡ within limit (length bytes)
+  unfolding within unless
+  own_fits limit n e = go (leb (length bytes) limit) e
+    where
+      go : (b : Bool) → given n ≡ unless b output_too_short (given (length bytes)) → given (length bytes) ≡ unless b output_too_short (given (length bytes))
+      go true e = refl
+      go false e = let z : ◌≡◌ {A = ℕ} 0 1 = cc in absurd (omega arith)
 
 -- ---- what is written
 

@@ -1,3 +1,4 @@
+pub mod Meaning
 pub mod Excerpted
 pub mod Stages
 pub mod Examples

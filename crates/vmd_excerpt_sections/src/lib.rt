@@ -9,19 +9,17 @@ ghost use Rattle.vmd_format.specs.Fetch.{next_frame};
 ghost use Rattle.vmd_format.specs.Read.{fixed, write_all, write_counted};
 ghost use Rattle.vmd_format.specs.Opening.{ik_total};
 ghost use Rattle.vmd_format.specs.Take.{property};
-ghost use Rattle.vmd_laws.specs.Places.{Reaches};
 ghost use Rattle.vmd_laws.specs.PlacesLaws.{property_in};
 ghost use Rattle.vmd_laws.specs.ReadLaws.{All};
-ghost use Rattle.vmd_laws.specs.ScanLaws.{ExtentWithin};
-ghost use Rattle.vmd_base.specs.Meaning.{extent_is};
 ghost use Rattle.vmd_bytes.specs.Slices.{splice};
 ghost use Rattle.vmd_bytes.specs.Written.{Room, Wrote};
 ghost use Rattle.vmd_records.specs.Kinds.{layout, size_of};
 ghost use Rattle.vmd_framed.specs.Excerpt.{moved, property_framed};
 ghost use Rattle.vmd_excerpt_sections.specs.Rows.{framed, rows, kept_rows, kept_frames, number_if, Stands};
 
-use vmd_base::VmdSection;
 use vmd_records::{VmdKind, VmdParsedPropertyFrame};
+use vmd_scan::property_frames::VmdPropertyFrames;
+use vmd_scan::records::VmdRecords;
 
 // A count before the records of a section, in bytes.
 const COUNT_SIZE: usize = 4;
@@ -29,11 +27,21 @@ const COUNT_SIZE: usize = 4;
 // As many records are looked at before they are written: few enough that they are still in the cache.
 const RUN: u32 = 64;
 
-// Whether a frame lies between two, both included.
-fn is_between(first: u32, last: u32, frame: u32) -> bool
-    ensures { result ≡ between first last frame }
-{
-    first <= frame && frame <= last
+// The frames of an excerpt: from the first to the last, both included. A range of the library would not be copied, and a clause
+// could not name its ends so plainly.
+#[derive(Clone, Copy, Debug, PartialEq, Eq)]
+pub struct VmdSpan {
+    pub first: u32,
+    pub last: u32,
+}
+
+impl VmdSpan {
+    #[tactic(auto, unfolding(vmd_format::specs::Characters::between))]
+    pub fn contains(self, frame: u32) -> bool
+        ensures { result ≡ between self.first self.last frame }
+    {
+        self.first <= frame && frame <= self.last
+    }
 }
 
 // The frame of the record of a kind at a place.
@@ -46,55 +54,50 @@ fn frame_at(s: &[u8], kind: VmdKind, at: usize) -> u32
 
 // ---- how many stay
 
-pub fn count_records(s: &[u8], kind: VmdKind, x: VmdSection, first: u32, last: u32) -> u32
-    requires { ExtentWithin (size_of kind) s.now (extent_is x) }
-    ensures { result ≡ length (kept_rows kind first last s.now x.count x.place) }
+pub fn count_records(records: VmdRecords, span: VmdSpan) -> u32
+    ensures { result ≡ length (kept_rows records.entry.kind span.first span.last records.entry.file.now records.entry.section.count records.entry.section.place) }
 {
+    let file = records.file;
+    let kind = records.kind;
+    let section = records.section;
     let size = kind.size();
     let mut kept = 0;
-    let mut p = x.place;
-    let mut left = x.count;
-    while 0 < left {
-        let on = is_between(first, last, frame_at(s, kind, p));
+    for i in 0..section.count as usize {
+        let on = span.contains(frame_at(file, kind, section.place + i * size));
         kept = vmd_count::next_if(kept, on);
-        p += size;
-        left -= 1;
     }
     kept as u32
 }
 
 // How many property frames, and how many IK states they have together.
-#[derive(Clone, Copy)]
+#[derive(Clone, Copy, Debug, PartialEq, Eq)]
 pub struct VmdKeptFrames {
     pub frames: u32,
     pub ik_states: u64,
 }
 
 // The IK states of a frame, or none.
+#[tactic(auto, unfolding(crate::specs::Rows::number_if))]
 fn states_if(states: u32, on: bool) -> u64
     ensures { result ≡ number_if on states }
 {
-    if on {
-        return states as u64;
-    }
-    0
+    if on { u64::from(states) } else { 0 }
 }
 
-pub fn count_properties(s: &[u8], x: VmdSection, first: u32, last: u32) -> VmdKeptFrames
-    requires { Reaches s.now x.count x.place }
-    ensures { (result.frames ≡ length (kept_frames first last s.now x.count x.place)) × (result.ik_states ≡ ik_total (kept_frames first last s.now x.count x.place)) }
+pub fn count_properties(properties: VmdPropertyFrames, span: VmdSpan) -> VmdKeptFrames
+    ensures { (result.frames ≡ length (kept_frames span.first span.last properties.entry.file.now properties.entry.section.count properties.entry.section.place)) × (result.ik_states ≡ ik_total (kept_frames span.first span.last properties.entry.file.now properties.entry.section.count properties.entry.section.place)) }
 {
+    let file = properties.file;
+    let section = properties.section;
     let mut kept = 0;
     let mut states: u64 = 0;
-    let mut p = x.place;
-    let mut left = x.count;
-    while 0 < left {
-        let on = is_between(first, last, vmd_bytes::read_u32_le(s, p));
-        let here = vmd_bytes::read_u32_le(s, p + VmdParsedPropertyFrame::IK_COUNT_OFFSET);
+    let mut p = section.place;
+    for _ in 0..section.count {
+        let on = span.contains(vmd_bytes::read_u32_le(file, p));
+        let here = vmd_bytes::read_u32_le(file, p + VmdParsedPropertyFrame::IK_COUNT_OFFSET);
         kept = vmd_count::next_if(kept, on);
         states += states_if(here, on);
-        p = vmd_scan::next_property_frame(s, p);
-        left -= 1;
+        p = vmd_scan::next_property_frame(file, p);
     }
     VmdKeptFrames {
         frames: kept as u32,
@@ -105,21 +108,17 @@ pub fn count_properties(s: &[u8], x: VmdSection, first: u32, last: u32) -> VmdKe
 // ---- records one after another that stay, or that do not
 
 // How many of n records are as the first is.
-fn run_length(s: &[u8], kind: VmdKind, at: usize, n: u32, first: u32, last: u32, on: bool) -> u32
-    requires { (1 ≤ n) × (at + n * size_of kind ≤ length s.now) × (on ≡ between first last ((framed kind).frame ((layout kind).decode (drop at s.now)))) }
-    ensures { (1 ≤ result) × (result ≤ n) × All (λ a. between first last ((framed kind).frame a) ≡ on) (rows kind s.now result at) }
+fn run_length(s: &[u8], kind: VmdKind, at: usize, n: u32, span: VmdSpan, on: bool) -> u32
+    requires { (1 ≤ n) × (at + n * size_of kind ≤ length s.now) × (on ≡ between span.first span.last ((framed kind).frame ((layout kind).decode (drop at s.now)))) }
+    ensures { (1 ≤ result) × (result ≤ n) × All (λ a. between span.first span.last ((framed kind).frame a) ≡ on) (rows kind s.now result at) }
 {
     let size = kind.size();
-    let mut p = at + size;
-    let mut k = 1;
-    while k < n {
-        if is_between(first, last, frame_at(s, kind, p)) != on {
+    for k in 1..n {
+        if span.contains(frame_at(s, kind, at + k as usize * size)) != on {
             return k;
         }
-        p += size;
-        k += 1;
     }
-    k
+    n
 }
 
 // Writes the frames of n records over those in their copies, the first one subtracted.
@@ -129,15 +128,9 @@ fn move_frames(out: &mut [u8], to: usize, kind: VmdKind, s: &[u8], at: usize, n:
 {
     let size = kind.size();
     let offset = kind.frame_offset();
-    let mut p = at;
-    let mut q = to;
-    let mut left = n;
-    while 0 < left {
-        let frame = frame_at(s, kind, p);
-        vmd_bytes::write_u32_le(out, q + offset, frame - first);
-        p += size;
-        q += size;
-        left -= 1;
+    for i in 0..n {
+        let frame = frame_at(s, kind, at + i * size);
+        vmd_bytes::write_u32_le(out, to + i * size + offset, frame - first);
     }
 }
 
@@ -162,34 +155,29 @@ fn write_run(
 // ---- a section
 
 // Where the records end, and how many there are.
-#[derive(Clone, Copy)]
+#[derive(Clone, Copy, Debug, PartialEq, Eq)]
 struct VmdPiece {
     end: usize,
     kept: u32,
 }
 
-fn write_kept(
-    out: &mut [u8],
-    to: usize,
-    kind: VmdKind,
-    s: &[u8],
-    x: VmdSection,
-    first: u32,
-    last: u32,
-) -> VmdPiece
-    requires { ExtentWithin (size_of kind) s.now (extent_is x) × Room out.old to (write_all (layout kind).encode (kept_rows kind first last s.now x.count x.place)) }
-    ensures { Wrote out.old to (write_all (layout kind).encode (kept_rows kind first last s.now x.count x.place)) out.new result.end × (result.kept ≡ length (kept_rows kind first last s.now x.count x.place)) }
+fn write_kept(out: &mut [u8], to: usize, records: VmdRecords, span: VmdSpan) -> VmdPiece
+    requires { Room out.old to (write_all (layout records.kind).encode (kept_rows records.kind span.first span.last records.file.now records.section.count records.section.place)) }
+    ensures { Wrote out.old to (write_all (layout records.entry.kind).encode (kept_rows records.entry.kind span.first span.last records.entry.file.now records.entry.section.count records.entry.section.place)) out.new result.end × (result.kept ≡ length (kept_rows records.entry.kind span.first span.last records.entry.file.now records.entry.section.count records.entry.section.place)) }
 {
+    let file = records.file;
+    let kind = records.kind;
     let size = kind.size();
-    let mut p = x.place;
+    let mut p = records.section.place;
     let mut q = to;
     let mut kept = 0;
-    let mut left = x.count;
+    let mut left = records.section.count;
+    // A turn takes a run, whose length is found as it goes: no range or chunks have such steps.
     while 0 < left {
-        let on = is_between(first, last, frame_at(s, kind, p));
-        let n = run_length(s, kind, p, vmd_bytes::smaller(left, RUN), first, last, on);
+        let on = span.contains(frame_at(file, kind, p));
+        let n = run_length(file, kind, p, left.min(RUN), span, on);
         if on {
-            q = write_run(out, q, kind, s, p, n as usize, first);
+            q = write_run(out, q, kind, file, p, n as usize, span.first);
             kept += n;
         }
         p += n as usize * size;
@@ -199,21 +187,13 @@ fn write_kept(
 }
 
 // The section of an excerpt: how many records stay, and the records. The count is written last: the records are looked at once.
-pub fn write_section(
-    out: &mut [u8],
-    to: usize,
-    kind: VmdKind,
-    s: &[u8],
-    x: VmdSection,
-    first: u32,
-    last: u32,
-) -> usize
-    requires { ExtentWithin (size_of kind) s.now (extent_is x) × Room out.old to (write_counted (fixed (layout kind)) (kept_rows kind first last s.now x.count x.place)) }
-    ensures { Wrote out.old to (write_counted (fixed (layout kind)) (kept_rows kind first last s.now x.count x.place)) out.new result }
+pub fn write_section(out: &mut [u8], to: usize, records: VmdRecords, span: VmdSpan) -> usize
+    requires { Room out.old to (write_counted (fixed (layout records.kind)) (kept_rows records.kind span.first span.last records.file.now records.section.count records.section.place)) }
+    ensures { Wrote out.old to (write_counted (fixed (layout records.entry.kind)) (kept_rows records.entry.kind span.first span.last records.entry.file.now records.entry.section.count records.entry.section.place)) out.new result }
 {
-    let records = write_kept(out, to + COUNT_SIZE, kind, s, x, first, last);
-    vmd_bytes::write_u32_le(out, to, records.kept);
-    records.end
+    let written = write_kept(out, to + COUNT_SIZE, records, span);
+    vmd_bytes::write_u32_le(out, to, written.kept);
+    written.end
 }
 
 // ---- property frames
@@ -232,25 +212,22 @@ fn write_moved_property(out: &mut [u8], to: usize, s: &[u8], at: usize, first: u
 fn write_kept_properties(
     out: &mut [u8],
     to: usize,
-    s: &[u8],
-    x: VmdSection,
-    first: u32,
-    last: u32,
+    properties: VmdPropertyFrames,
+    span: VmdSpan,
 ) -> VmdPiece
-    requires { Reaches s.now x.count x.place × Room out.old to (write_all property.write (kept_frames first last s.now x.count x.place)) }
-    ensures { Wrote out.old to (write_all property.write (kept_frames first last s.now x.count x.place)) out.new result.end × (result.kept ≡ length (kept_frames first last s.now x.count x.place)) }
+    requires { Room out.old to (write_all property.write (kept_frames span.first span.last properties.file.now properties.section.count properties.section.place)) }
+    ensures { Wrote out.old to (write_all property.write (kept_frames span.first span.last properties.entry.file.now properties.entry.section.count properties.entry.section.place)) out.new result.end × (result.kept ≡ length (kept_frames span.first span.last properties.entry.file.now properties.entry.section.count properties.entry.section.place)) }
 {
-    let mut p = x.place;
+    let file = properties.file;
+    let mut p = properties.section.place;
     let mut q = to;
     let mut kept = 0;
-    let mut left = x.count;
-    while 0 < left {
-        if is_between(first, last, vmd_bytes::read_u32_le(s, p)) {
-            q = write_moved_property(out, q, s, p, first);
+    for _ in 0..properties.section.count {
+        if span.contains(vmd_bytes::read_u32_le(file, p)) {
+            q = write_moved_property(out, q, file, p, span.first);
             kept += 1;
         }
-        p = vmd_scan::next_property_frame(s, p);
-        left -= 1;
+        p = vmd_scan::next_property_frame(file, p);
     }
     VmdPiece { end: q, kept }
 }
@@ -258,15 +235,13 @@ fn write_kept_properties(
 pub fn write_property_section(
     out: &mut [u8],
     to: usize,
-    s: &[u8],
-    x: VmdSection,
-    first: u32,
-    last: u32,
+    properties: VmdPropertyFrames,
+    span: VmdSpan,
 ) -> usize
-    requires { Reaches s.now x.count x.place × Room out.old to (write_counted property (kept_frames first last s.now x.count x.place)) }
-    ensures { Wrote out.old to (write_counted property (kept_frames first last s.now x.count x.place)) out.new result }
+    requires { Room out.old to (write_counted property (kept_frames span.first span.last properties.file.now properties.section.count properties.section.place)) }
+    ensures { Wrote out.old to (write_counted property (kept_frames span.first span.last properties.entry.file.now properties.entry.section.count properties.entry.section.place)) out.new result }
 {
-    let frames = write_kept_properties(out, to + COUNT_SIZE, s, x, first, last);
+    let frames = write_kept_properties(out, to + COUNT_SIZE, properties, span);
     vmd_bytes::write_u32_le(out, to, frames.kept);
     frames.end
 }

@@ -25,9 +25,14 @@ use Rattle.vmd_output.specs.Sections.{Frames, records_of, frames_of}
 use Rattle.vmd_bytes.specs.Written.{Wrote, Rest}
 use Rattle.vmd_bytes.proofs.Writes.{rest_as}
 use Rattle.vmd_output.proofs.Saves.{Saves, given_answer, saves_over, saves_room, saves_wrote}
+use Rattle.vmd_scan.specs.Meaning.{scan_is}
+use Rattle.vmd_export.specs.declared.both.VmdBoth.{VmdBoth}
 use Rattle.vmd_export.specs.Together.{no_scan, Sums, sums_fit, sum_length, scan_fitting, scan_both, Both, edition_file, back_bytes, sections_bytes, take_of_both}
 
 -- ---- two files
+
+pub both_of : (b : VmdBoth) → Both b.first.file.now (scan_is b.first.sections) b.second.file.now (scan_is b.second.sections)
+both_of b = record { first = b.first.scanned; second = b.second.scanned; sums = b.sums }
 
 module _ {s : List ℕ} {x : Scan} {t : List ℕ} {y : Scan} (b : Both s x t y) where
   pub property_frames : Frames s x.properties t y.properties
@@ -68,13 +73,9 @@ module _ {s : List ℕ} {x : Scan} {t : List ℕ} {y : Scan} (b : Both s x t y) 
 
 -- ---- an export is a take and nothing
 
-alone : (s : List ℕ) (x : Scan) → Scanned s x → Sums x no_scan → Both s x s no_scan
+pub no_scanned : (s : List ℕ) → Scanned s no_scan
 unfolding no_scan walk ik_total frames_in
-alone s x c n = record {
-  first = c;
-  second = record { inside = none; ik_states = refl };
-  sums = n;
-}
+no_scanned s = record { inside = none; ik_states = refl }
   where
     nothing : (w : ℕ) → ExtentWithin w s (record { count = 0; place = 0 })
     nothing w = record { place = omega arith; ends = omega arith }
@@ -143,22 +144,10 @@ module _ (how : Manner) (s : List ℕ) where
     unfolding map_answer
     export_refused k q = edition_by_places ∙ rw q
 
-    module _ (x y : Scan) (q : scan_fitting e how s ≡ given x) (f : y ≡ no_scan) where
-      scanned : scan_file how s ≡ given x
-      unfolding scan_fitting and_then unless
-      scanned = go (scan_file how s) room q
-        where
-          go : (a : Answer Scan) (b : Bool) → and_then a (λ x. unless b model_name_too_long (given x)) ≡ given x → a ≡ given x
-          go (declined k) b r = r
-          go (given z) true r = r
-          go (given z) false r = let z : ◌≡◌ {A = ℕ} 0 1 = cc in absurd (omega arith)
-
-      pub export_both : Sums x no_scan → Both s x s y
-      export_both h = rw f (alone s x (scan_scanned how s x scanned) h)
-
-      pub export_given : (m : List ℕ) → m ≡ model_of s → given (write_edition e (take_of_both m s x s y)) ≡ edition_file e how s
+    module _ (x : Scan) (q : scan_fitting e how s ≡ given x) where
+      pub export_given : given (write_edition e (take_of_both (model_of s) s x s no_scan)) ≡ edition_file e how s
       unfolding map_answer
-      export_given m g = rw (f, g, alone_take x) (sym (edition_by_places ∙ rw q))
+      export_given = rw (alone_take x) (sym (edition_by_places ∙ rw q))
 
 -- ---- a join
 
@@ -181,6 +170,10 @@ sums_are x y e h =
       ik_states = h;
     }
 
+-- the IK states of both fit 64 bits, since each has its bytes
+pub both_sums : (s t : List ℕ) (x y : Scan) → sums_fit x y ≡ true → Scanned s x → Scanned t y → length s ≤ 18446744073709551615 → length t ≤ 18446744073709551615 → Sums x y
+both_sums s t x y e a b h k = sums_are x y e (omega (arith, inside_ends s x a.inside, inside_ends t y b.inside))
+
 module _ (how : Manner) (s t : List ℕ) where
   pub first_refused : (k : Refusal) → scan_file how s ≡ declined k → declined k ≡ scan_both how s t
   unfolding scan_both and_then
@@ -198,42 +191,6 @@ module _ (how : Manner) (s t : List ℕ) where
     pub both_found : sums_fit x y ≡ true → given (x, y) ≡ scan_both how s t
     unfolding scan_both and_then unless
     both_found g = rw (e, f, g)
-
-  -- what two files give that were scanned and fit
-  record Found (x y : Scan) : Type 0 where
-    first : scan_file how s ≡ given x
-    second : scan_file how t ≡ given y
-    fit : sums_fit x y ≡ true
-
-  found : (x y : Scan) → scan_both how s t ≡ given (x, y) → Found x y
-  unfolding scan_both and_then unless
-  found x y e = one (scan_file how s) (scan_file how t) refl refl e
-    where
-      two : (u v : Scan) → scan_file how s ≡ given u → scan_file how t ≡ given v
-          → (b : Bool) → sums_fit u v ≡ b → unless {A = Scan × Scan} b count_too_large (given (u, v)) ≡ given (x, y) → Found x y
-      two u v p q true r e =
-          let pair : ◌≡◌ {A = Scan × Scan} (u, v) (x, y) = cc in
-          let a : u ≡ x = ap (λ z. z.0) pair in
-          let c : v ≡ y = ap (λ z. z.1) pair in
-          record { first = p ∙ ap given a; second = q ∙ ap given c; fit = rw (← a, ← c) r }
-      two u v p q false r e = let z : ◌≡◌ {A = ℕ} 0 1 = cc in absurd (omega arith)
-
-      one : (a b : Answer Scan) → scan_file how s ≡ a → scan_file how t ≡ b
-          → and_then a (λ u. and_then b (λ v. unless {A = Scan × Scan} (sums_fit u v) count_too_large (given (u, v)))) ≡ given (x, y) → Found x y
-      one (declined k) b p q e = let z : ◌≡◌ {A = ℕ} 0 1 = cc in absurd (omega arith)
-      one (given u) (declined k) p q e = let z : ◌≡◌ {A = ℕ} 0 1 = cc in absurd (omega arith)
-      one (given u) (given v) p q e = two u v p q (sums_fit u v) refl e
-
-  pub both_scanned : (x y : Scan) → scan_both how s t ≡ given (x, y) → length s ≤ 18446744073709551615 → length t ≤ 18446744073709551615 → Both s x t y
-  both_scanned x y e h k =
-      let f = found x y e in
-      let a = scan_scanned how s x f.first in
-      let b = scan_scanned how t y f.second in
-      record {
-        first = a;
-        second = b;
-        sums = sums_are x y f.fit (omega (arith, inside_ends s x a.inside, inside_ends t y b.inside));
-      }
 
   joined_take : (x y : Scan) → take_of_both (joined_model (model_of s) (model_of t)) s x t y ≡ join (take_in s x) (take_in t y)
   unfolding take_of_both join take_in take_of file_in section_in records_of frames_of

@@ -1,13 +1,12 @@
 -- What export, the converter and joining answer and leave in an output, of takes that are written out: an output that is longer
 -- keeps its tail, one that is a byte short is refused and kept, and what a refused file leaves.
-use Rattle.std.specs.Prelude.{ℕ, ◌-◌, ◌≡◌, refl, List, [], ◌∷◌, ◌++◌, take, replicate}
+use Rattle.std.specs.Prelude.{ℕ, ◌-◌, ◌≡◌, refl, List, [], ◌∷◌, ◌++◌, take, replicate, Ok, Err}
 use Rattle.vmd_format.specs.Refusal.{file_ends_early, magic_differs, output_too_short, model_name_too_long, bytes_over, count_oversized}
 use Rattle.vmd_format.specs.Answer.{declined, given}
 use Rattle.vmd_format.specs.Read.{strict, lenient}
 use Rattle.vmd_format.specs.Computed.{computed, start, older_start, fours, u0, u1, morph_bytes}
 use Rattle.vmd_base.specs.declared.VmdRefusal.TheVariants.{OutputTooShort}
-use Rattle.vmd_output.specs.declared.VmdWritten.TheVariants.{Refused, Bytes}
-use Rattle.vmd_output.specs.Meaning.{written_answer}
+use Rattle.vmd_base.specs.Meaning.{answer_of}
 use Rattle.vmd_export.specs.Saved.{exported_answer, exported_output, older_answer, older_output, joined_answer, joined_output, export_size, older_size, join_size}
 
 -- a take of one morph under a letter, with bytes after its name, and as it is written
@@ -81,7 +80,7 @@ unfolding computed
 join_refused = (refl, refl, refl, refl, refl)
 
 -- what an answer of the code says
-pub answers : (written_answer (Bytes 74) ≡ given 74) × (written_answer (Refused OutputTooShort) ≡ declined output_too_short)
+pub answers : (answer_of {A = ℕ} (Ok 74) ≡ given 74) × (answer_of {A = ℕ} (Err OutputTooShort) ≡ declined output_too_short)
 answers = (refl, refl)
 
 -- ---- the two manners (02 i)

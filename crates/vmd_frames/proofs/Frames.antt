@@ -11,19 +11,8 @@ use Rattle.vmd_format.specs.Opening.{least, smallest, largest, record_count, Sca
 use Rattle.vmd_format.specs.Fetch.{next_frame}
 use Rattle.vmd_laws.specs.Places.{frames_from, scan_frames}
 use Rattle.vmd_laws.specs.FrameLaws.{largest_append}
-use Rattle.vmd_records.specs.declared.VmdKind.{VmdKind}
-use Rattle.vmd_records.specs.declared.VmdKind.TheVariants as kind
-use Rattle.vmd_records.specs.Kinds.{size_of, frame_at}
 use Rattle.vmd_frames.specs.declared.VmdFrames.{VmdFrames}
 use Rattle.vmd_frames.specs.Frames.{no_frames, with_frame, with_frames, seen, frames_of}
-
--- a record has its frame in it
-pub frame_inside : (k : VmdKind) → frame_at k + 4 ≤ size_of k
-frame_inside kind.Bone = omega arith
-frame_inside kind.Morph = omega arith
-frame_inside kind.Camera = omega arith
-frame_inside kind.Light = omega arith
-frame_inside kind.SelfShadow = omega arith
 
 -- a loop over n frames that is at frame i
 module _ (next : ℕ → ℕ) (offset : ℕ) (s : List ℕ) (n i at : ℕ) (f all : VmdFrames) where

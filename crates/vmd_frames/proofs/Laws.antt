@@ -1,4 +1,4 @@
--- Turns of the loops over property frames, the places of a scratch and records of one size. Assumes nothing.
+-- Turns of the loops over property frames and the places of a scratch. Assumes nothing.
 use Prim.Native.Nat.{ℕ, zero, suc, ◌+◌, ◌*◌, ◌-◌, ◌≤◌, ◌<◌, min}
 use mathlib.Core.Path.{◌≡◌, refl, sym, ◌∙◌}
 use mathlib.Core.List.{List, [], ◌∷◌, ◌++◌, append_assoc}
@@ -55,13 +55,3 @@ unfolding sixteenth_places
 places_done s n j at scratch all h q =
     let z : n - j ≡ 0 = omega arith in
     sym (take-append-drop n scratch) ∙ (rw (z, h) at q)
-
--- ---- records of one size
-
-module _ (s : List ℕ) (size n i at : ℕ) where
-  -- the record of a turn lies in the file, and what is left after it
-  pub record_inside : i < n → at + (n - i) * size ≤ length s → at + size + (n - (i + 1)) * size ≤ length s
-  record_inside h l =
-      let e : n - i ≡ suc (n - (i + 1)) = omega arith in
-      let p : at + suc (n - (i + 1)) * size ≤ length s = rw e at l in
-      omega arith

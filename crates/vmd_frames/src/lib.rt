@@ -23,19 +23,18 @@ fn frame_end(file: &[u8], place: usize, n: usize) -> usize
     ensures { result ≡ frame_end file.now n place }
 {
     let mut at = place;
-    let mut i = 0;
-    while i < n {
+    for _ in 0..n {
         at = vmd_scan::next_property_frame(file, at);
-        i += 1;
     }
     at
 }
 
 // The places that the property frames of a section need in scratch: a sixteenth of their number, rounded up.
+#[tactic(auto, unfolding(vmd_format::specs::Opening::places_needed))]
 pub fn places_needed(count: u32) -> usize
     ensures { result ≡ places_needed count }
 {
-    ((count as usize) + (FRAMES_PER_PLACE - 1)) / FRAMES_PER_PLACE
+    (count as usize).div_ceil(FRAMES_PER_PLACE)
 }
 
 // The position of every sixteenth property frame, into the first places of scratch.
@@ -46,13 +45,11 @@ pub fn write_frame_places(file: &[u8], section: VmdSection, scratch: &mut [u64])
     let n = places_needed(section.count);
     let mut left = section.count;
     let mut at = section.place;
-    let mut j = 0;
-    while j < n {
+    for j in 0..n {
         scratch[j] = at as u64;
-        let walked = vmd_bytes::smaller(left, FRAMES_PER_PLACE as u32);
+        let walked = left.min(FRAMES_PER_PLACE as u32);
         at = frame_end(file, at, walked as usize);
         left -= walked;
-        j += 1;
     }
 }
 
@@ -60,19 +57,20 @@ pub fn write_frame_places(file: &[u8], section: VmdSection, scratch: &mut [u64])
 
 // The smallest and the largest frame of a file, or of what a pass has seen of it: handed on from record to record and from
 // section to section.
-#[derive(Clone, Copy)]
+#[derive(Clone, Copy, Debug, PartialEq, Eq)]
 pub struct VmdFrames {
     pub smallest: u32,
     pub largest: u32,
 }
 
 impl VmdFrames {
-    // Before any frame: no frame is above the first or below the second.
+    // Before any frame: no frame is above the first or below the second. No Option: it is what min and max begin from, and the
+    // definition `no_frames` has it so.
     fn none() -> VmdFrames
         ensures { result ≡ no_frames }
     {
         VmdFrames {
-            smallest: 4294967295,
+            smallest: u32::MAX,
             largest: 0,
         }
     }
@@ -81,8 +79,8 @@ impl VmdFrames {
         ensures { result ≡ with_frame self frame }
     {
         VmdFrames {
-            smallest: vmd_bytes::smaller(self.smallest, frame),
-            largest: vmd_bytes::larger(self.largest, frame),
+            smallest: self.smallest.min(frame),
+            largest: self.largest.max(frame),
         }
     }
 }
@@ -94,14 +92,10 @@ fn with_records(file: &[u8], kind: VmdKind, section: VmdSection, before: VmdFram
 {
     let size = kind.size();
     let offset = kind.frame_offset();
-    let n = section.count as usize;
     let mut frames = before;
-    let mut at = section.place;
-    let mut i = 0;
-    while i < n {
-        frames = frames.with_frame(vmd_bytes::read_u32_le(file, at + offset));
-        at += size;
-        i += 1;
+    for i in 0..section.count as usize {
+        let frame = vmd_bytes::read_u32_le(file, section.place + i * size + offset);
+        frames = frames.with_frame(frame);
     }
     frames
 }
@@ -111,14 +105,11 @@ fn with_properties(file: &[u8], section: VmdSection, before: VmdFrames) -> VmdFr
     requires { Reaches file.now section.count section.place }
     ensures { result ≡ with_properties file.now (extent_is section) before }
 {
-    let n = section.count as usize;
     let mut frames = before;
     let mut at = section.place;
-    let mut i = 0;
-    while i < n {
+    for _ in 0..section.count {
         frames = frames.with_frame(vmd_bytes::read_u32_le(file, at));
         at = vmd_scan::next_property_frame(file, at);
-        i += 1;
     }
     frames
 }
@@ -136,36 +127,13 @@ fn all_frames(file: &[u8], sections: VmdSections) -> VmdFrames
     with_properties(file, sections.properties, self_shadows)
 }
 
-// The records of all six sections.
-pub fn record_count(
-    bones: u32,
-    morphs: u32,
-    cameras: u32,
-    lights: u32,
-    self_shadows: u32,
-    properties: u32,
-) -> u64
-    ensures { result ≡ bones + morphs + cameras + lights + self_shadows + properties }
-{
-    let front = (bones as u64) + (morphs as u64) + (cameras as u64);
-    let back = (lights as u64) + (self_shadows as u64) + (properties as u64);
-    front + back
-}
-
 // The smallest and the largest frame of a scanned file. Whether there are any is told by the counts: a frame may be the
 // largest number there is.
 pub fn frames_of(file: &[u8], sections: VmdSections) -> VmdFrames
     requires { Inside file.now (scan_is sections) }
     ensures { result ≡ frames_of file.now (scan_is sections) }
 {
-    let records = record_count(
-        sections.bones.count,
-        sections.morphs.count,
-        sections.cameras.count,
-        sections.lights.count,
-        sections.self_shadows.count,
-        sections.properties.count,
-    );
+    let records = sections.counts().records();
     if records == 0 {
         return VmdFrames {
             smallest: 0,

@@ -6,48 +6,42 @@ ghost use Rattle.vmd_format.specs.Answer.{map_answer};
 ghost use Rattle.vmd_format.specs.Take.{model_width};
 ghost use Rattle.vmd_format.specs.Fetch.{model_of};
 ghost use Rattle.vmd_laws.specs.Places.{header_place, place_past, header_places};
-ghost use Rattle.vmd_base.specs.Meaning.{edition_is};
+ghost use Rattle.vmd_base.specs.Meaning.{answer, edition_is};
 ghost use Rattle.vmd_places.specs.Parts.{file_part};
-ghost use Rattle.vmd_header.specs.Meaning.{header_answer};
+ghost use Rattle.vmd_header.specs.Meaning.{header_is};
 
 use vmd_base::{
     MAGIC_COMPARED, MAGIC_SIZE, OLDER_MAGIC, VMD_MAGIC, VmdEdition, VmdPart, VmdRefusal,
 };
 
 // What a header says of places: the field of the model name, and where the sections begin.
-#[derive(Clone, Copy)]
+#[derive(Clone, Copy, Debug, PartialEq, Eq)]
 pub struct VmdHeader {
     pub name: usize,
     pub width: usize,
     pub sections: usize,
 }
 
-#[derive(Clone, Copy)]
-pub enum HeaderAnswer {
-    Refused(VmdRefusal),
-    Read(VmdHeader),
-}
-
 // The header of a file that is of this edition.
-fn header_of(file: &[u8], edition: VmdEdition) -> HeaderAnswer
-    ensures { header_answer result ≡ map_answer header_places (place_past (model_width (edition_is edition)) file.now) }
+fn header_of(file: &[u8], edition: VmdEdition) -> Result<VmdHeader, VmdRefusal>
+    ensures { answer header_is result ≡ map_answer header_places (place_past (model_width (edition_is edition)) file.now) }
 {
     let width = edition.model_width();
     if file.len() < MAGIC_SIZE + width {
-        return HeaderAnswer::Refused(VmdRefusal::FileEndsEarly);
+        return Err(VmdRefusal::FileEndsEarly);
     }
-    HeaderAnswer::Read(VmdHeader {
+    Ok(VmdHeader {
         name: MAGIC_SIZE,
         width,
         sections: MAGIC_SIZE + width,
     })
 }
 
-pub fn read_header(file: &[u8]) -> HeaderAnswer
-    ensures { header_answer result ≡ map_answer header_places (header_place file.now) }
+pub fn read_header(file: &[u8]) -> Result<VmdHeader, VmdRefusal>
+    ensures { answer header_is result ≡ map_answer header_places (header_place file.now) }
 {
     if file.len() < MAGIC_SIZE {
-        return HeaderAnswer::Refused(VmdRefusal::FileEndsEarly);
+        return Err(VmdRefusal::FileEndsEarly);
     }
     if vmd_bytes::same_start(file, &VMD_MAGIC, MAGIC_COMPARED) {
         return header_of(file, VmdEdition::Newer);
@@ -55,7 +49,7 @@ pub fn read_header(file: &[u8]) -> HeaderAnswer
     if vmd_bytes::same_start(file, &OLDER_MAGIC, MAGIC_COMPARED) {
         return header_of(file, VmdEdition::Older);
     }
-    HeaderAnswer::Refused(VmdRefusal::MagicDiffers)
+    Err(VmdRefusal::MagicDiffers)
 }
 
 // Where the model name stands; nowhere where the header is refused.
@@ -63,8 +57,8 @@ pub fn model_part(file: &[u8]) -> VmdPart
     ensures { result ≡ file_part 30 (length (model_of file.now)) }
 {
     match read_header(file) {
-        HeaderAnswer::Refused(_) => VmdPart { at: 0, len: 0 },
-        HeaderAnswer::Read(header) => vmd_places::name_at(file, header.name, header.width),
+        Err(_) => VmdPart { at: 0, len: 0 },
+        Ok(header) => vmd_places::name_at(file, header.name, header.width),
     }
 }
 

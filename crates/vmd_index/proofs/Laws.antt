@@ -1,16 +1,13 @@
 -- Laws of the reader's steps for code. Assumes nothing.
-use Rattle.std.proofs.Common.{◌≡◌, ℕ, ◌+◌, ◌*◌, ◌%◌, ◌^◌, ◌<◌, ◌≤◌, Bool, true, false, cond, ltb, leb, List, length, get_or, drop, sym, refl, ◌∙◌, one-mul, add-one, arith, lit<, drop_of_length-le, drop-cons, shl_exact, ltb-false, eq-eqb, ne_eqb, leb-false, leb-true}
+use Rattle.std.proofs.Common.{◌≡◌, ℕ, ◌+◌, ◌<◌, ◌≤◌, Bool, true, false, cond, ltb, leb, List, length, get_or, drop, sym, refl, ◌∙◌, add-one, arith, drop_of_length-le, drop-cons, ltb-false, leb-false, leb-true}
 use Rattle.vmd_format.specs.Characters.{between}
-use Rattle.vmd_index.specs.declared.LineEnd.{LineEnd}
-use Rattle.vmd_index.specs.declared.LineEnd.TheVariants.{Nothing, Entry, Fault}
+use Rattle.std.specs.Prelude.{None, Some, Ok, Err}
 use Rattle.vmd_index.specs.declared.Phase.{Phase}
 use Rattle.vmd_index.specs.declared.Phase.TheVariants.{Blank, BlankReturn, Comment, Pointer, Tab, Zero, Prefix, CodePoint, Return, Past, NoEntry, Faulty}
 use Rattle.vmd_index.specs.declared.Cause.TheVariants as cause
 use Rattle.vmd_index.specs.declared.IndexReader.{IndexReader}
-use Rattle.vmd_index.specs.declared.Outcome.{Outcome}
-use Rattle.vmd_index.specs.declared.IndexRead.{IndexRead}
-use Rattle.vmd_index.specs.Index.{digit, judged}
-use Rattle.vmd_index.specs.Steps.{next_phase, phase_end, pointer_of, line_after, least_after, phase_after, outcome_after, marked, after_line, in_line, step, fed, ended}
+use Rattle.vmd_index.specs.Index.{digit, judged, LineEnd}
+use Rattle.vmd_index.specs.Steps.{phase_end, step, fed}
 
 -- a digit lies between two bytes
 pub digit_range : {r : Bool} (b : ℕ) → r ≡ digit b → r ≡ true → (48 ≤ b) × (b ≤ 57)
@@ -22,23 +19,19 @@ digit_range b e t = go (leb 48 b) (leb b 57) refl refl (sym e ∙ t)
     go true false f g h = let z : true ≡ false = sym h in let n : ◌≡◌ {A = ℕ} 0 1 = cc in absurd (omega arith)
     go false y f g h = let z : true ≡ false = sym h in let n : ◌≡◌ {A = ℕ} 0 1 = cc in absurd (omega arith)
 
--- a bit of a word
-pub one_shifted : (k : ℕ) → k < 32 → (1 * 2 ^ k) % 2 ^ 32 ≡ 2 ^ k
-one_shifted k h = shl_exact 1 k 32 (lit< tt) (omega arith) ∙ one-mul (2 ^ k)
-
 -- ---- an entry's pointer is one that may come, of the 11,280
 
 abbrev pub Fair : ℕ → LineEnd → Type 0
-Fair least Nothing = Unit {0}
-Fair least (Entry p) = (least ≤ p) × (p < 11280)
-Fair least (Fault c) = Unit {0}
+Fair least (Ok None) = Unit {0}
+Fair least (Ok (Some p)) = (least ≤ p) × (p < 11280)
+Fair least (Err c) = Unit {0}
 
 judged_fair : (least p : ℕ) → Fair least (judged least p)
 unfolding judged
 judged_fair least p = go (leb 11280 p) (ltb p least) refl refl
   where
     go : (x y : Bool) → leb 11280 p ≡ x → ltb p least ≡ y
-        → Fair least (cond x (Fault cause.TooLarge) (cond y (Fault cause.NotAbove) (Entry p)))
+        → Fair least (cond x (Err cause.TooLarge) (cond y (Err cause.NotAbove) (Ok (Some p))))
     go true y e f = tt
     go false true e f = tt
     go false false e f = (ltb-false p least f, leb-false 11280 p e)
@@ -62,41 +55,11 @@ end_fair least (Faulty c) = tt
 abbrev pub reader : List ℕ → ℕ → ℕ → Phase → IndexReader
 reader ws n m x = record { words = ws; line = n; least = m; phase = x }
 
-abbrev pub read : List ℕ → Outcome → IndexRead
-read ws o = record { words = ws; outcome = o }
-
-step_byte : (r : IndexReader) (b : ℕ) → (b ≡ 10 → ⊥) → step r b ≡ in_line b r
-unfolding step
-step_byte r b h = rw (ne_eqb b 10 h)
-
-step_line : (r : IndexReader) (b : ℕ) → b ≡ 10 → step r b ≡ after_line (phase_end r.least r.phase) r
-unfolding step
-step_line r b h = rw (eq-eqb b 10 h)
-
 -- before byte i: what is left of the piece makes of the reader what the whole makes of the one before it
-module _ (s ws : List ℕ) (n m : ℕ) (x : Phase) (i : ℕ) {r : IndexReader} (e : fed (reader ws n m x) (drop i s) ≡ r) where
-  stepped : {q : IndexReader} → i < length s → step (reader ws n m x) (get_or s i 0) ≡ q → fed q (drop (i + 1) s) ≡ r
-  unfolding fed
-  stepped h a = rw (← a, add-one i) (rw (drop-cons s i 0 h) at e)
+pub fed_byte : {r : IndexReader} (q : IndexReader) (s : List ℕ) (i : ℕ) → i < length s → fed q (drop i s) ≡ r → fed (step q (get_or s i 0)) (drop (i + 1) s) ≡ r
+unfolding fed
+fed_byte q s i h e = rw (add-one i) (rw (drop-cons s i 0 h) at e)
 
-  -- a byte of a line
-  pub fed_byte : {y : Phase} → i < length s → (get_or s i 0 ≡ 10 → ⊥) → y ≡ next_phase x (get_or s i 0)
-      → fed (reader ws n m y) (drop (i + 1) s) ≡ r
-  unfolding in_line
-  fed_byte h b a = stepped h (step_byte (reader ws n m x) (get_or s i 0) b ∙ rw a)
-
-  -- a line feed
-  pub fed_line : {f : LineEnd} {p k l : ℕ} {vs : List ℕ} {y : Phase} → i < length s → get_or s i 0 ≡ 10 → f ≡ phase_end m x → p ≡ pointer_of f
-      → vs ≡ marked ws p → k ≡ line_after n f → l ≡ least_after m f → y ≡ phase_after f → fed (reader vs k l y) (drop (i + 1) s) ≡ r
-  unfolding after_line
-  fed_line h b f a c d g y = stepped h (step_line (reader ws n m x) (get_or s i 0) b ∙ rw (y, g, d, c, a, f))
-
-  pub fed_done : length s ≤ i → reader ws n m x ≡ r
-  unfolding fed
-  fed_done h = rw (drop_of_length-le s h) at e
-
--- the end of the input
-pub ended_is : (r : IndexReader) {f : LineEnd} {p : ℕ} {ws : List ℕ} {o : Outcome} → f ≡ phase_end r.least r.phase → p ≡ pointer_of f
-    → ws ≡ marked r.words p → o ≡ outcome_after r.line f → read ws o ≡ ended r
-unfolding ended
-ended_is r f a b d = rw (d, b, a, f)
+pub fed_done : {r : IndexReader} (q : IndexReader) (s : List ℕ) (i : ℕ) → length s ≤ i → fed q (drop i s) ≡ r → q ≡ r
+unfolding fed
+fed_done q s i h e = rw (drop_of_length-le s h) at e

@@ -3,18 +3,17 @@
 use Rattle.std.proofs.Common.{◌≡◌, ℕ, ◌+◌, ◌-◌, ◌*◌, min, Bool, true, false, cond, ◌&&◌, eqb, leb, List, [], ◌∷◌, sym, refl, ap, ◌∙◌, arith, ne_eqb, eqb-true, leb-false, leb-true}
 use mathlib.Core.Bool.{and_assoc, and-false}
 use Rattle.vmd_format.specs.Characters.{between}
-use Rattle.vmd_index.specs.declared.LineEnd.{LineEnd}
-use Rattle.vmd_index.specs.declared.LineEnd.TheVariants.{Nothing, Fault}
+use Rattle.std.specs.Prelude.{None, Ok, Err}
 use Rattle.vmd_index.specs.declared.Phase.{Phase}
 use Rattle.vmd_index.specs.declared.Phase.TheVariants.{Blank, BlankReturn, Comment, Pointer, Tab, Zero, Prefix, CodePoint, Return, Past, NoEntry, Faulty}
 use Rattle.vmd_index.specs.declared.Cause.{Cause}
 use Rattle.vmd_index.specs.declared.Cause.TheVariants as cause
-use Rattle.vmd_index.specs.Index.{before_first, split, without_return, blank, without_blanks, digit, hexadecimal, all, some, value_after, code_point, entry, no_entry, from_items, from_content, line_says, judged, line_end}
+use Rattle.vmd_index.specs.Index.{before_first, split, without_return, blank, without_blanks, digit, hexadecimal, all, some, value_after, code_point, entry, no_entry, from_items, from_content, line_says, judged, LineEnd, line_end}
 use Rattle.vmd_index.proofs.Laws.{digit_range}
 use Rattle.vmd_index.specs.Steps.{with_digit, after_blanks, after_digits, after_code_point, next_phase, phase_end}
 
 abbrev none : LineEnd
-none = Fault cause.NoEntry
+none = Err cause.NoEntry
 
 -- ---- pointers that count as 11,280
 
@@ -62,9 +61,9 @@ after_zero (b ∷ s) = eqb b 120 && some hexadecimal s
 
 pub rest : ℕ → Phase → List ℕ → LineEnd
 rest m Blank s = line_end m (line_says s)
-rest m BlankReturn [] = Nothing
+rest m BlankReturn [] = Ok None
 rest m BlankReturn (b ∷ s) = none
-rest m Comment s = Nothing
+rest m Comment s = Ok None
 rest m (Pointer v) s = after_pointer m v (items s)
 rest m (Tab v) s = second code_point m v s
 rest m (Zero v) s = second after_zero m v s
@@ -74,7 +73,7 @@ rest m (Return v) [] = judged m v
 rest m (Return v) (b ∷ s) = none
 rest m (Past v) s = judged m v
 rest m NoEntry s = none
-rest m (Faulty c) s = Fault c
+rest m (Faulty c) s = Err c
 
 -- ---- a byte before a line
 
@@ -329,6 +328,6 @@ unfolding rest
 rest_whole m s = refl
 
 -- a line after a fault
-pub rest_faulty : (m : ℕ) (c : Cause) (s : List ℕ) → rest m (Faulty c) s ≡ Fault c
+pub rest_faulty : (m : ℕ) (c : Cause) (s : List ℕ) → rest m (Faulty c) s ≡ Err c
 unfolding rest
 rest_faulty m c s = refl

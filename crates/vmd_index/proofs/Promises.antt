@@ -3,7 +3,7 @@ use Rattle.std.proofs.Common.{◌≡◌, ℕ, suc, ◌/◌, ◌%◌, ◌^◌, �
 use Rattle.vmd_format.specs.Characters.{in_index}
 use Rattle.vmd_presence.specs.Presence.{bit, Presence}
 use Rattle.vmd_index.specs.declared.Cause.TheVariants.{TooLarge, NotAbove}
-use Rattle.vmd_index.specs.declared.LineEnd.TheVariants.{Entry, Fault}
+use Rattle.std.specs.Prelude.{Some, Ok, Err}
 use Rattle.vmd_index.specs.Index.{lines, Line, nothing, entry, no_entry, line_says, judged, line_end, Pointers, pointers, faulty, and_pointer, line_and, pointers_from, index_pointers, among, table, words, answer_of, index_answer}
 use Rattle.vmd_index.proofs.Words.{Under, not_among, length_table, table_bit}
 
@@ -31,7 +31,7 @@ holds_more p qs (faulty n c) h a = tt
 -- one line, where the lines after it hold
 module _ (n m : ℕ) (qs : List ℕ) (more : ℕ → Pointers) (ih : (k : ℕ) → Holds qs (more k)) where
   judged_holds : (p : ℕ) (x y : Bool) → leb 11280 p ≡ x → ltb p m ≡ y
-      → Holds (p ∷ qs) (line_and (cond x (Fault TooLarge) (cond y (Fault NotAbove) (Entry p))) n m more)
+      → Holds (p ∷ qs) (line_and (cond x (Err TooLarge) (cond y (Err NotAbove) (Ok (Some p)))) n m more)
   unfolding line_and
   judged_holds p true y e f = tt
   judged_holds p false true e f = tt

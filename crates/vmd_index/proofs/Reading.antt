@@ -1,12 +1,11 @@
 -- Reading an index in pieces gives what the definition says of the whole of it. Assumes nothing.
 use Rattle.std.proofs.Common.{◌≡◌, ℕ, suc, ◌+◌, min, Bool, true, false, cond, eqb, List, [], ◌∷◌, ◌++◌, sym, refl, ap, ◌∙◌, append_assoc, append-nil, arith}
-use Rattle.vmd_index.specs.declared.LineEnd.{LineEnd}
-use Rattle.vmd_index.specs.declared.LineEnd.TheVariants.{Nothing, Entry, Fault}
+use Rattle.std.specs.Prelude.{None, Some, Ok, Err}
 use Rattle.vmd_index.specs.declared.Phase.{Phase}
 use Rattle.vmd_index.specs.declared.Phase.TheVariants.{Blank, Faulty}
 use Rattle.vmd_index.specs.declared.IndexReader.{IndexReader}
 use Rattle.vmd_index.specs.declared.Cause.{Cause}
-use Rattle.vmd_index.specs.Index.{before_first, split, lines, Pointers, pointers, faulty, and_pointer, capped, line_and, pointers_from, index_pointers, table, Answer, words, faulty_line, answer_of, index_answer}
+use Rattle.vmd_index.specs.Index.{before_first, split, lines, Pointers, pointers, faulty, and_pointer, capped, LineEnd, line_and, pointers_from, index_pointers, table, Answer, words, faulty_line, answer_of, index_answer}
 use Rattle.vmd_index.specs.Steps.{next_phase, phase_end, pointer_of, outcome_after, marked, after_line, in_line, first_reader, step, fed, ended, answer_in, answered}
 use Rattle.vmd_index.proofs.Laws.{Fair, end_fair, reader}
 use Rattle.vmd_index.proofs.Words.{Under, under_snoc, not_among, table_none, table_marked, none_marked}
@@ -110,9 +109,9 @@ module _ (n m : ℕ) (x : Phase) (seen : List ℕ) (u : Under m seen) where
   right_end : (e : LineEnd) → Fair m e
       → answer_in (marked (table seen) (pointer_of e)) (outcome_after (capped n) e) ≡ with_seen seen (line_and e n m (λ k. pointers []))
   unfolding with_seen line_and and_pointer
-  right_end Nothing f = rw (none_marked (table seen), append-nil seen)
-  right_end (Entry p) f = rw (table_marked seen p f.1 (not_among m p seen f.0 u))
-  right_end (Fault c) f = refl
+  right_end (Ok None) f = rw (none_marked (table seen), append-nil seen)
+  right_end (Ok (Some p)) f = rw (table_marked seen p f.1 (not_among m p seen f.0 u))
+  right_end (Err c) f = refl
 
   -- the end of a line
   module _ (s : List ℕ) (ih : Right s) where
@@ -120,13 +119,13 @@ module _ (n m : ℕ) (x : Phase) (seen : List ℕ) (u : Under m seen) where
         → found (fed (after_line e (reader (table seen) (capped n) m x)) s)
         ≡ with_seen seen (line_and e n m (λ k. pointers_from (suc n) k (split 10 s)))
     unfolding after_line line_and
-    right_line Nothing f = rw (none_marked (table seen), next_number n, ← lines_whole (suc n) m 10 s) (ih (suc n) m Blank seen u)
-    right_line (Entry p) f =
+    right_line (Ok None) f = rw (none_marked (table seen), next_number n, ← lines_whole (suc n) m 10 s) (ih (suc n) m Blank seen u)
+    right_line (Ok (Some p)) f =
         let q : min (p + 1) 11280 ≡ suc p = omega (arith, f.1) in
         rw (table_marked seen p f.1 (not_among m p seen f.0 u), next_number n, q, ← lines_whole (suc n) (suc p) 10 s)
         (ih (suc n) (suc p) Blank (seen ++ (p ∷ [])) (under_snoc m p seen f.0 u)
         ∙ seen_more seen p (lines_from Blank (suc n) (suc p) (split 10 s)))
-    right_line (Fault c) f = rw (none_marked (table seen)) (ih n m (Faulty c) seen u ∙ ap (with_seen seen) (line_faulty c n m (split 10 s)))
+    right_line (Err c) f = rw (none_marked (table seen)) (ih n m (Faulty c) seen u ∙ ap (with_seen seen) (line_faulty c n m (split 10 s)))
 
 right_last : Right []
 unfolding fed ended answered split pointers_from

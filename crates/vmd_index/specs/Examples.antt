@@ -1,9 +1,8 @@
 -- Computed examples that pin the definition of an index, of its table, and of what is printed. Assumes nothing.
-use Rattle.std.specs.Prelude.{◌≡◌, ◌^◌, [], ◌∷◌, ◌++◌, replicate, refl}
+use Rattle.std.specs.Prelude.{◌≡◌, ◌^◌, [], ◌∷◌, ◌++◌, replicate, refl, Err}
 use Rattle.vmd_format.specs.Characters.{between}
 use Rattle.vmd_text.specs.Text.{tens_if, digits, decimal, number_lines, text}
 use Rattle.vmd_index.specs.declared.Cause.TheVariants.{NoEntry, TooLarge, NotAbove}
-use Rattle.vmd_index.specs.declared.LineEnd.TheVariants.{Fault}
 use Rattle.vmd_index.specs.Index.{before_first, split, lines, without_return, blank, without_blanks, digit, hexadecimal, all, some, value_after, code_point, from_items, from_content, line_says, judged, line_end, pointers, faulty, and_pointer, capped, line_and, pointers_from, index_pointers, among, bits_below, words_from, table, words, faulty_line, answer_of, index_answer}
 use Rattle.vmd_index.specs.Output.{reason, message}
 
@@ -80,7 +79,7 @@ unfolding opened
 first_fault = (refl, refl, refl)
 
 -- line numbers stop
-pub many_lines : line_and (Fault NoEntry) (2 ^ 64) 0 (λ m. pointers []) ≡ faulty 18446744073709551615 NoEntry
+pub many_lines : line_and (Err NoEntry) (2 ^ 64) 0 (λ m. pointers []) ≡ faulty 18446744073709551615 NoEntry
 unfolding opened
 many_lines = refl
 

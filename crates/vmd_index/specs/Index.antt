@@ -1,12 +1,10 @@
 -- The published index, and its presence table: request h), "set exactly where the index has an entry". The index has a line for
 -- each entry: the pointer in decimal, a tab, the code point as 0x and hexadecimal digits, and what may follow after another tab;
 -- blanks may stand before the pointer. Lines that begin with # and blank lines say nothing. Definitions only.
-use Rattle.std.specs.Prelude.{ℕ, zero, suc, ◌+◌, ◌-◌, ◌*◌, ◌^◌, min, Bool, true, false, cond, ◌&&◌, ◌||◌, List, [], ◌∷◌, ◌==◌, nat_le, nat_lt}
+use Rattle.std.specs.Prelude.{ℕ, zero, suc, ◌+◌, ◌-◌, ◌*◌, ◌^◌, min, Bool, true, false, cond, ◌&&◌, ◌||◌, List, [], ◌∷◌, Option, None, Some, Result, Ok, Err, ◌==◌, nat_le, nat_lt}
 use Rattle.vmd_format.specs.Characters.{between}
 use Rattle.vmd_index.specs.declared.Cause.{Cause}
 use Rattle.vmd_index.specs.declared.Cause.TheVariants.{NoEntry, TooLarge, NotAbove}
-use Rattle.vmd_index.specs.declared.LineEnd.{LineEnd}
-use Rattle.vmd_index.specs.declared.LineEnd.TheVariants.{Nothing, Entry, Fault}
 
 -- ---- lines and items
 
@@ -91,14 +89,18 @@ line_says l = from_content (without_blanks (without_return l))
 
 -- ---- all lines
 
+-- What the end of a line finds: nothing, the pointer of an entry, or why the line is at fault.
+abbrev pub LineEnd : Type 0
+LineEnd = Result (Option ℕ) Cause
+
 -- A pointer is one of 11,280, and above the one before it: `least` is one more than that one, and 0 where there is none.
 unfoldable pub judged : ℕ → ℕ → LineEnd
-judged least p = cond (nat_le 11280 p) (Fault TooLarge) (cond (nat_lt p least) (Fault NotAbove) (Entry p))
+judged least p = cond (nat_le 11280 p) (Err TooLarge) (cond (nat_lt p least) (Err NotAbove) (Ok (Some p)))
 
 unfoldable pub line_end : ℕ → Line → LineEnd
-line_end least nothing = Nothing
+line_end least nothing = Ok None
 line_end least (entry p) = judged least p
-line_end least no_entry = Fault NoEntry
+line_end least no_entry = Err NoEntry
 
 -- the pointers of an index, or the number of its first line at fault, and why
 pub data Pointers : Type 0 where
@@ -115,9 +117,9 @@ capped n = min n 18446744073709551615
 
 -- line n, and the lines after it: `more` says what these give where no pointer below a number may come
 unfoldable pub line_and : LineEnd → ℕ → ℕ → (ℕ → Pointers) → Pointers
-line_and Nothing n least more = more least
-line_and (Entry p) n least more = and_pointer p (more (suc p))
-line_and (Fault c) n least more = faulty (capped n) c
+line_and (Ok None) n least more = more least
+line_and (Ok (Some p)) n least more = and_pointer p (more (suc p))
+line_and (Err c) n least more = faulty (capped n) c
 
 -- lines, the first of which is line n
 unfoldable pub pointers_from : ℕ → ℕ → List (List ℕ) → Pointers

@@ -1,16 +1,13 @@
 -- The reader as the code goes, byte by byte: what each byte makes of a state, over the code's own types. Any numbers in a state
 -- mean something. Definitions only.
-use Rattle.std.specs.Prelude.{ℕ, ◌+◌, ◌-◌, ◌*◌, ◌/◌, ◌%◌, ◌^◌, min, cond, List, [], ◌∷◌, replicate, ◌==◌, nat_lt, slice_index, slice_set}
+use Rattle.std.specs.Prelude.{ℕ, ◌+◌, ◌-◌, ◌*◌, ◌/◌, ◌%◌, ◌^◌, min, cond, List, [], ◌∷◌, None, Some, Result, Ok, Err, replicate, ◌==◌, nat_lt, slice_index, slice_set}
 use Rattle.vmd_index.specs.declared.Cause.TheVariants as cause
-use Rattle.vmd_index.specs.declared.LineEnd.{LineEnd}
-use Rattle.vmd_index.specs.declared.LineEnd.TheVariants.{Nothing, Entry, Fault}
 use Rattle.vmd_index.specs.declared.Phase.{Phase}
 use Rattle.vmd_index.specs.declared.Phase.TheVariants.{Blank, BlankReturn, Comment, Pointer, Tab, Zero, Prefix, CodePoint, Return, Past, NoEntry, Faulty}
 use Rattle.vmd_index.specs.declared.IndexReader.{IndexReader}
-use Rattle.vmd_index.specs.declared.Outcome.{Outcome}
-use Rattle.vmd_index.specs.declared.Outcome.TheVariants as outcome
+use Rattle.vmd_index.specs.declared.Fault.{Fault}
 use Rattle.vmd_index.specs.declared.IndexRead.{IndexRead}
-use Rattle.vmd_index.specs.Index.{blank, digit, hexadecimal, judged, capped, Answer, words, faulty_line}
+use Rattle.vmd_index.specs.Index.{blank, digit, hexadecimal, judged, capped, LineEnd, Answer, words, faulty_line}
 
 -- ---- one byte of a line
 
@@ -45,48 +42,45 @@ next_phase (Faulty c) b = Faulty c
 -- ---- the end of a line
 
 abbrev pub phase_end : ℕ → Phase → LineEnd
-phase_end least Blank = Nothing
-phase_end least BlankReturn = Nothing
-phase_end least Comment = Nothing
-phase_end least (Pointer p) = Fault cause.NoEntry
-phase_end least (Tab p) = Fault cause.NoEntry
-phase_end least (Zero p) = Fault cause.NoEntry
-phase_end least (Prefix p) = Fault cause.NoEntry
+phase_end least Blank = Ok None
+phase_end least BlankReturn = Ok None
+phase_end least Comment = Ok None
+phase_end least (Pointer p) = Err cause.NoEntry
+phase_end least (Tab p) = Err cause.NoEntry
+phase_end least (Zero p) = Err cause.NoEntry
+phase_end least (Prefix p) = Err cause.NoEntry
 phase_end least (CodePoint p) = judged least p
 phase_end least (Return p) = judged least p
 phase_end least (Past p) = judged least p
-phase_end least NoEntry = Fault cause.NoEntry
-phase_end least (Faulty c) = Fault c
+phase_end least NoEntry = Err cause.NoEntry
+phase_end least (Faulty c) = Err c
 
 -- ---- what it changes
 
 -- the pointer of an entry; 11,280 for none
 abbrev pub pointer_of : LineEnd → ℕ
-pointer_of Nothing = 11280
-pointer_of (Entry p) = p
-pointer_of (Fault c) = 11280
+pointer_of (Ok None) = 11280
+pointer_of (Ok (Some p)) = p
+pointer_of (Err c) = 11280
 
 -- a line at fault keeps its number
 abbrev pub line_after : ℕ → LineEnd → ℕ
-line_after n Nothing = capped (n + 1)
-line_after n (Entry p) = capped (n + 1)
-line_after n (Fault c) = n
+line_after n (Ok e) = capped (n + 1)
+line_after n (Err c) = n
 
 abbrev pub least_after : ℕ → LineEnd → ℕ
-least_after m Nothing = m
-least_after m (Entry p) = min (p + 1) 11280
-least_after m (Fault c) = m
+least_after m (Ok None) = m
+least_after m (Ok (Some p)) = min (p + 1) 11280
+least_after m (Err c) = m
 
 -- and stays at fault
 abbrev pub phase_after : LineEnd → Phase
-phase_after Nothing = Blank
-phase_after (Entry p) = Blank
-phase_after (Fault c) = Faulty c
+phase_after (Ok e) = Blank
+phase_after (Err c) = Faulty c
 
-abbrev pub outcome_after : ℕ → LineEnd → Outcome
-outcome_after n Nothing = outcome.Complete
-outcome_after n (Entry p) = outcome.Complete
-outcome_after n (Fault c) = outcome.Faulty n c
+abbrev pub outcome_after : ℕ → LineEnd → Result (Unit {0}) Fault
+outcome_after n (Ok e) = Ok tt
+outcome_after n (Err c) = Err (record { line = n; cause = c })
 
 -- the words with a pointer's bit added; as they were where there is no such pointer
 unfoldable pub marked : List ℕ → ℕ → List ℕ
@@ -122,9 +116,9 @@ ended r = record {
   outcome = outcome_after r.line (phase_end r.least r.phase);
 }
 
-abbrev pub answer_in : List ℕ → Outcome → Answer
-answer_in ws outcome.Complete = words ws
-answer_in ws (outcome.Faulty n c) = faulty_line n c
+abbrev pub answer_in : List ℕ → Result (Unit {0}) Fault → Answer
+answer_in ws (Ok e) = words ws
+answer_in ws (Err f) = faulty_line f.line f.cause
 
 unfoldable pub answered : IndexRead → Answer
 answered x = answer_in x.words x.outcome

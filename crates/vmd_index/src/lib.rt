@@ -8,27 +8,20 @@ ghost use Rattle.vmd_bytes.specs.Slices.{splice};
 ghost use Rattle.vmd_bytes.specs.Written.{Wrote};
 ghost use Rattle.vmd_text.specs.Text.{number_lines};
 ghost use Rattle.vmd_index.specs.Index.{blank, digit, hexadecimal, judged, capped};
-ghost use Rattle.vmd_index.specs.Steps.{with_digit, after_blanks, after_digits, after_code_point, next_phase, phase_end, pointer_of, line_after, least_after, phase_after, outcome_after, marked, first_reader, fed, ended};
+ghost use Rattle.vmd_index.specs.Steps.{with_digit, after_blanks, after_digits, after_code_point, next_phase, phase_end, marked, first_reader, after_line, step, fed, ended};
 ghost use Rattle.vmd_index.specs.Output.{reason, message};
 
 // Why there is no table for a line.
-#[derive(Clone, Copy)]
+#[derive(Clone, Copy, Debug, PartialEq, Eq)]
 pub enum Cause {
     NoEntry,
     TooLarge,
     NotAbove,
 }
 
-// What the end of a line finds.
-#[derive(Clone, Copy)]
-pub enum LineEnd {
-    Nothing,
-    Entry(u32),
-    Fault(Cause),
-}
-
-// What the bytes of a line are so far. The number is the pointer, or 11,280 for any that is no less.
-#[derive(Clone, Copy)]
+// What the bytes of a line are so far. The number is the pointer, or 11,280 for any that is no less: the definition `with_digit`
+// has it so.
+#[derive(Clone, Copy, Debug, PartialEq, Eq)]
 pub enum Phase {
     // Blanks only; these and a carriage return.
     Blank,
@@ -49,7 +42,7 @@ pub enum Phase {
 }
 
 // The table of the lines before, the number of the line, the smallest pointer that may come next, and the line so far.
-#[derive(Clone, Copy)]
+#[derive(Clone, Copy, Debug, PartialEq, Eq)]
 pub struct IndexReader {
     pub words: [u32; vmd_presence::WORDS],
     pub line: u64,
@@ -57,17 +50,19 @@ pub struct IndexReader {
     pub phase: Phase,
 }
 
-#[derive(Clone, Copy)]
-pub enum Outcome {
-    Complete,
-    Faulty(u64, Cause),
+// The first line at fault: its number, and why.
+#[derive(Clone, Copy, Debug, PartialEq, Eq)]
+pub struct Fault {
+    pub line: u64,
+    pub cause: Cause,
 }
 
-// What the whole index makes: the table, where the outcome is Complete, or the number of the line at fault.
-#[derive(Clone, Copy)]
+// What the whole index makes: the table, where no line is at fault. The words stand beside the outcome, since `ended`, which
+// index_words promises, says what they are in either case.
+#[derive(Clone, Copy, Debug, PartialEq, Eq)]
 pub struct IndexRead {
     pub words: [u32; vmd_presence::WORDS],
-    pub outcome: Outcome,
+    pub outcome: Result<(), Fault>,
 }
 
 const POINTERS: u32 = 11280;
@@ -77,60 +72,52 @@ const TABLE_SIZE: usize = 4096;
 
 const MESSAGE_SIZE: usize = 128;
 
-const LAST_LINE: u64 = 0xffff_ffff_ffff_ffff;
-
 // ---- bytes
 
+#[tactic(auto, unfolding(crate::specs::Index::blank))]
 fn is_blank(b: u8) -> bool
     ensures { result ≡ blank b }
 {
-    if b == b' ' {
-        return true;
-    }
-    b == b'\t'
+    b == b' ' || b == b'\t'
 }
 
+#[tactic(auto, unfolding(crate::specs::Index::digit))]
 fn is_digit(b: u8) -> bool
     ensures { result ≡ digit b }
 {
     vmd_bytes::between(b'0', b'9', b)
 }
 
+#[tactic(auto, unfolding(crate::specs::Index::hexadecimal))]
 fn is_hexadecimal(b: u8) -> bool
     ensures { result ≡ hexadecimal b }
 {
-    if is_digit(b) {
-        return true;
-    }
-    if vmd_bytes::between(b'A', b'F', b) {
-        return true;
-    }
-    vmd_bytes::between(b'a', b'f', b)
+    is_digit(b) || vmd_bytes::between(b'A', b'F', b) || vmd_bytes::between(b'a', b'f', b)
 }
 
 // ---- one byte of a line
 
 // The pointer with a digit more.
+#[tactic(auto, unfolding(crate::specs::Steps::with_digit))]
 fn with_digit(p: u32, b: u8) -> u32
     requires { (48 ≤ b) × (b ≤ 57) }
     ensures { result ≡ with_digit p b }
 {
     if p < POINTERS / 10 {
-        return 10 * p + (b - b'0') as u32;
+        10 * p + u32::from(b - b'0')
+    } else {
+        POINTERS
     }
-    POINTERS
 }
 
 // The phase, where the byte is what it has to be.
 fn only(holds: bool, then: Phase) -> Phase
     ensures { result ≡ cond holds then Phase.NoEntry }
 {
-    if holds {
-        return then;
-    }
-    Phase::NoEntry
+    if holds { then } else { Phase::NoEntry }
 }
 
+#[tactic(auto, using(crate::proofs::Laws::digit_range), unfolding(crate::specs::Steps::after_blanks))]
 fn after_blanks(b: u8) -> Phase
     ensures { result ≡ after_blanks b }
 {
@@ -146,6 +133,7 @@ fn after_blanks(b: u8) -> Phase
     only(b == b'\r', Phase::BlankReturn)
 }
 
+#[tactic(auto, using(crate::proofs::Laws::digit_range), unfolding(crate::specs::Steps::after_digits))]
 fn after_digits(p: u32, b: u8) -> Phase
     ensures { result ≡ after_digits p b }
 {
@@ -155,6 +143,7 @@ fn after_digits(p: u32, b: u8) -> Phase
     only(b == b'\t', Phase::Tab(p))
 }
 
+#[tactic(auto, unfolding(crate::specs::Steps::after_code_point))]
 fn after_code_point(p: u32, b: u8) -> Phase
     ensures { result ≡ after_code_point p b }
 {
@@ -188,120 +177,94 @@ fn next_phase(phase: Phase, b: u8) -> Phase
 
 // ---- the end of a line
 
-fn judged(least: u32, p: u32) -> LineEnd
+// The pointer of an entry, where it may stand there.
+#[tactic(auto, unfolding(crate::specs::Index::judged))]
+fn judged(least: u32, p: u32) -> Result<Option<u32>, Cause>
     ensures { result ≡ judged least p }
 {
     if POINTERS <= p {
-        return LineEnd::Fault(Cause::TooLarge);
+        return Err(Cause::TooLarge);
     }
     if p < least {
-        return LineEnd::Fault(Cause::NotAbove);
+        return Err(Cause::NotAbove);
     }
-    LineEnd::Entry(p)
+    Ok(Some(p))
 }
 
-fn phase_end(least: u32, phase: Phase) -> LineEnd
+// The pointer of the line's entry, where it has one, or why the line is at fault.
+fn phase_end(least: u32, phase: Phase) -> Result<Option<u32>, Cause>
     ensures { result ≡ phase_end least phase }
 {
     match phase {
-        Phase::Blank => LineEnd::Nothing,
-        Phase::BlankReturn => LineEnd::Nothing,
-        Phase::Comment => LineEnd::Nothing,
-        Phase::Pointer(_) => LineEnd::Fault(Cause::NoEntry),
-        Phase::Tab(_) => LineEnd::Fault(Cause::NoEntry),
-        Phase::Zero(_) => LineEnd::Fault(Cause::NoEntry),
-        Phase::Prefix(_) => LineEnd::Fault(Cause::NoEntry),
-        Phase::CodePoint(p) => judged(least, p),
-        Phase::Return(p) => judged(least, p),
-        Phase::Past(p) => judged(least, p),
-        Phase::NoEntry => LineEnd::Fault(Cause::NoEntry),
-        Phase::Faulty(cause) => LineEnd::Fault(cause),
-    }
-}
-
-// ---- what the end of a line changes
-
-// The pointer of an entry; 11,280 for none.
-fn pointer_of(found: LineEnd) -> u32
-    ensures { result ≡ pointer_of found }
-{
-    match found {
-        LineEnd::Nothing => POINTERS,
-        LineEnd::Entry(p) => p,
-        LineEnd::Fault(_) => POINTERS,
-    }
-}
-
-fn next_line(line: u64) -> u64
-    ensures { result ≡ capped (line + 1) }
-{
-    if line < LAST_LINE {
-        return line + 1;
-    }
-    LAST_LINE
-}
-
-// A line at fault keeps its number.
-fn line_after(line: u64, found: LineEnd) -> u64
-    ensures { result ≡ line_after line found }
-{
-    match found {
-        LineEnd::Nothing => next_line(line),
-        LineEnd::Entry(_) => next_line(line),
-        LineEnd::Fault(_) => line,
-    }
-}
-
-fn least_after(least: u32, found: LineEnd) -> u32
-    ensures { result ≡ least_after least found }
-{
-    match found {
-        LineEnd::Nothing => least,
-        LineEnd::Entry(p) => { if p < POINTERS { p + 1 } else { POINTERS } }
-        LineEnd::Fault(_) => least,
-    }
-}
-
-// And stays at fault.
-fn phase_after(found: LineEnd) -> Phase
-    ensures { result ≡ phase_after found }
-{
-    match found {
-        LineEnd::Nothing => Phase::Blank,
-        LineEnd::Entry(_) => Phase::Blank,
-        LineEnd::Fault(cause) => Phase::Faulty(cause),
-    }
-}
-
-fn outcome_after(line: u64, found: LineEnd) -> Outcome
-    ensures { result ≡ outcome_after line found }
-{
-    match found {
-        LineEnd::Nothing => Outcome::Complete,
-        LineEnd::Entry(_) => Outcome::Complete,
-        LineEnd::Fault(cause) => Outcome::Faulty(line, cause),
+        Phase::Blank | Phase::BlankReturn | Phase::Comment => Ok(None),
+        Phase::Pointer(_) | Phase::Tab(_) | Phase::Zero(_) | Phase::Prefix(_) => {
+            Err(Cause::NoEntry)
+        }
+        Phase::CodePoint(p) | Phase::Return(p) | Phase::Past(p) => judged(least, p),
+        Phase::NoEntry => Err(Cause::NoEntry),
+        Phase::Faulty(cause) => Err(cause),
     }
 }
 
 // Sets a pointer's bit, where there is such a pointer.
+#[tactic(auto, unfolding(crate::specs::Steps::marked))]
 fn mark(words: &mut [u32; vmd_presence::WORDS], p: u32)
     ensures { words.new ≡ marked words.old p }
 {
     if p < POINTERS {
         let i = (p / 32) as usize;
-        words[i] = std::num::wrapping_add_u32(words[i], 1 << (p % 32));
+        words[i] = words[i].wrapping_add(1 << (p % 32));
     }
 }
 
 // ---- the reader
 
+impl IndexReader {
+    // The next line begins. Line numbers stop at the largest.
+    #[tactic(auto, unfolding(crate::specs::Index::capped))]
+    fn begin_line(&mut self)
+        ensures { self.new ≡ record { words = self.old.words; line = capped (self.old.line + 1); least = self.old.least; phase = Phase.Blank } }
+    {
+        self.line = self.line.saturating_add(1);
+        self.phase = Phase::Blank;
+    }
+
+    // The line ends: its pointer is set. A line at fault keeps its number, and stays at fault.
+    #[tactic(auto, unfolding(crate::specs::Steps::after_line, crate::specs::Steps::marked))]
+    fn end_line(&mut self)
+        ensures { self.new ≡ after_line (phase_end self.old.least self.old.phase) self.old }
+    {
+        match phase_end(self.least, self.phase) {
+            Ok(None) => self.begin_line(),
+            Ok(Some(p)) => {
+                mark(&mut self.words, p);
+                self.least = p.min(POINTERS - 1) + 1;
+                self.begin_line();
+            }
+            Err(cause) => self.phase = Phase::Faulty(cause),
+        }
+    }
+
+    // Reads a byte.
+    #[tactic(auto, unfolding(crate::specs::Steps::step, crate::specs::Steps::in_line))]
+    fn step(&mut self, b: u8)
+        ensures { self.new ≡ step self.old b }
+    {
+        if b == b'\n' {
+            self.end_line();
+        } else {
+            self.phase = next_phase(self.phase, b);
+        }
+    }
+}
+
 // A reader that has read nothing.
+#[tactic(auto, unfolding(crate::specs::Steps::first_reader))]
 pub fn index_reader() -> IndexReader
     ensures { result ≡ first_reader }
 {
-    let words = [0u32; vmd_presence::WORDS];
     IndexReader {
-        words,
+        words: [0; vmd_presence::WORDS],
         line: 1,
         least: 0,
         phase: Phase::Blank,
@@ -312,42 +275,39 @@ pub fn index_reader() -> IndexReader
 pub fn read_index(reader: IndexReader, piece: &[u8]) -> IndexReader
     ensures { result ≡ fed reader piece.now }
 {
-    let mut words = reader.words;
-    let mut line = reader.line;
-    let mut least = reader.least;
-    let mut phase = reader.phase;
-    let mut i = 0;
-    while i < piece.len() {
-        let b = piece[i];
-        i += 1;
-        if b == b'\n' {
-            let found = phase_end(least, phase);
-            mark(&mut words, pointer_of(found));
-            line = line_after(line, found);
-            least = least_after(least, found);
-            phase = phase_after(found);
-        } else {
-            phase = next_phase(phase, b);
-        }
+    let mut after = reader;
+    for &b in piece {
+        after.step(b);
     }
-    IndexReader {
-        words,
-        line,
-        least,
-        phase,
-    }
+    after
 }
 
-// What the index makes, once all of it is read.
+// What the index makes, once all of it is read: the end of the input ends the last line.
+#[tactic(auto, unfolding(crate::specs::Steps::ended, crate::specs::Steps::marked))]
 pub fn index_words(reader: IndexReader) -> IndexRead
     ensures { result ≡ ended reader }
 {
     let mut words = reader.words;
-    let phase = reader.phase;
-    let found = phase_end(reader.least, phase);
-    mark(&mut words, pointer_of(found));
-    let outcome = outcome_after(reader.line, found);
-    IndexRead { words, outcome }
+    match phase_end(reader.least, reader.phase) {
+        Ok(None) => IndexRead {
+            words,
+            outcome: Ok(()),
+        },
+        Ok(Some(p)) => {
+            mark(&mut words, p);
+            IndexRead {
+                words,
+                outcome: Ok(()),
+            }
+        }
+        Err(cause) => IndexRead {
+            words,
+            outcome: Err(Fault {
+                line: reader.line,
+                cause,
+            }),
+        },
+    }
 }
 
 // ---- what is printed
@@ -360,15 +320,16 @@ pub fn write_words(words: &[u32; vmd_presence::WORDS], out: &mut [u8; TABLE_SIZE
     vmd_text::write_lines(out, words)
 }
 
-fn write_reason(out: &mut [u8], to: usize, cause: Cause) -> usize
-    requires { to + 48 ≤ length out.old }
-    ensures { Wrote out.old to (reason cause) out.new result }
-{
-    match cause {
-        Cause::NoEntry => vmd_text::write_text(out, to, b": this is no entry of the index\n"),
-        Cause::TooLarge => vmd_text::write_text(out, to, b": the pointer is 11280 or more\n"),
-        Cause::NotAbove => {
-            vmd_text::write_text(out, to, b": the pointer is not above the one before\n")
+impl Cause {
+    // What is printed of it, to the end of the line.
+    #[tactic(auto, unfolding(crate::specs::Output::reason, vmd_text::specs::Text::text))]
+    fn reason(self) -> &'static [u8]
+        ensures { result.now ≡ reason self }
+    {
+        match self {
+            Cause::NoEntry => b": this is no entry of the index\n",
+            Cause::TooLarge => b": the pointer is 11280 or more\n",
+            Cause::NotAbove => b": the pointer is not above the one before\n",
         }
     }
 }
@@ -379,7 +340,7 @@ fn write_fault(out: &mut [u8], line: u64, cause: Cause) -> usize
 {
     let at = vmd_text::write_text(out, 0, b"presence-table: line ");
     let end = vmd_text::write_decimal(out, at, line);
-    write_reason(out, end, cause)
+    vmd_text::write_text(out, end, cause.reason())
 }
 
 // The message for a line at fault.

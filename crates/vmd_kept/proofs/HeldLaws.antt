@@ -17,7 +17,6 @@ use Rattle.vmd_tracks.proofs.TrackLaws.{keep_true, keep_false, all_map, all_last
 use Rattle.vmd_tracks.specs.Sorted.{Sorted}
 use Rattle.vmd_tracks.proofs.RankedLaws.{sorted_select}
 use Rattle.vmd_sort.specs.Order.{rank}
-use Rattle.vmd_sort.specs.OrderLaws.{word}
 use Rattle.vmd_sort.specs.SortLaws.{all_at}
 use Rattle.vmd_sort.specs.declared.VmdOrder.TheVariants as order
 use Rattle.vmd_kept.specs.Window.{above, between, Rising, Holds, Cut, whole, part}
@@ -149,13 +148,6 @@ module _ (f : ℕ → ℕ) where
 pub cut_few : {k ceil m c : ℕ} {l : List ℕ} → Cut k l ceil m c → (m ≤ k) × (m ≤ 16384)
 cut_few (whole h d e) = (omega arith, omega arith)
 cut_few (part h d e) = (omega arith, omega arith)
-
--- a place and 1 is no more than a word
-pub cut_small : (f : ℕ → ℕ) (n k : ℕ) (a b : List ℕ) → n < word → k ≤ length b → take k b ≡ lasts f a → All (λ x. x < n) a
-    → (i : ℕ) → i < k → get_or b i 0 + 1 < word
-cut_small f n k a b w g e h i j =
-    let r = all_at (λ x. x < n) (take k b) (rw e (all_lasts f _ a h)) i (omega (arith, length-take-le k b g)) in
-    omega (arith, r, get_or-take k b i 0 j)
 
 -- LAW: what squeezing leaves
 pub squeezed : (f : ℕ → ℕ) (s : List ℕ) (floor p ceil c k m : ℕ) (a b u r l : List ℕ) → 0 < length a

@@ -1,4 +1,3 @@
-pub mod Keys
 pub mod LastsLaws
 pub mod Resorted
 pub mod WindowLaws

@@ -1,11 +1,14 @@
 -- Laws of the keys that a pass looks for.
-use Prim.Native.Nat.{ℕ, zero, suc, ◌-◌, ◌<◌}
+use Prim.Native.Nat.{ℕ, zero, suc, ◌<◌}
 use mathlib.Core.Path.{◌≡◌, refl, ap, sym, ◌∙◌}
 use mathlib.Core.Bool.{Bool, true, false, not, ◌&&◌}
 use mathlib.Core.List.{List, [], ◌∷◌}
 use native.Mathlib.Omega.{arith}
 use borrow.Author.Tests.{ltb-true, ltb-false, le-ltb, lt-ltb, not-true}
 use lib.Dec.{ltb}
+use Rattle.std.proofs.Common.{Ordering}
+use Rattle.std.specs.Ordering.{is_lt, nat_cmp}
+use Rattle.std.proofs.lemmas.Bool.Decides.{nat_tests}
 use lib.ListN.{length, get_or, take}
 use Rattle.vmd_count.specs.DistinctLaws.{select_none}
 use Rattle.vmd_keys.specs.Names.{select}
@@ -36,12 +39,9 @@ select_two g h v (a ∷ l) e = go (test (h a)) (test (g a)) (select_two g h v l 
 
 module _ (f : ℕ → ℕ) where
   -- the tests, as the code makes them
-  pub above_none : (floor x : ℕ) → floor ≡ 0 → above f floor x ≡ true
-  above_none floor x e = rw e (unfold above in refl)
-
-  pub above_some : (floor x : ℕ) → ¬ (floor ≡ 0) → above f floor x ≡ ltb (f (floor - 1)) (f x)
-  above_some zero x d = absurd (d refl)
-  above_some (suc g) x d = let e : suc g - 1 ≡ g = omega arith in rw e (unfold above in refl)
+  pub above_cmp : (g x : ℕ) {o : Ordering} {t : Bool} → o ≡ nat_cmp (f g) (f x) → t ≡ is_lt o → t ≡ above f (suc g) x
+  unfolding above
+  above_cmp g x e d = grind (arith, nat_tests, e, d)
 
   pub between_out : (floor ceil x : ℕ) → above f floor x ≡ false → false ≡ between f floor ceil x
   unfolding between

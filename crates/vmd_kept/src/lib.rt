@@ -2,26 +2,38 @@
 // keys above a floor, as many as fit in a local array of places. Internal: callers see to the lengths.
 #![tactic(auto)]
 
-ghost use Rattle.std.specs.Prelude.{◌≡◌, List, [], ◌∷◌, ◌++◌, ℕ, ◌+◌, ◌≤◌, ◌<◌, ltb, length, get_or, take};
+ghost use Rattle.std.specs.Prelude.{◌≡◌, List, [], ◌∷◌, ◌++◌, ℕ, ◌+◌, ◌≤◌, ◌<◌, length, take};
 ghost use Rattle.vmd_tracks.specs.Tracks.{lasts};
+ghost use Rattle.vmd_count.specs.Rowed.{bound};
 ghost use Rattle.vmd_sort.specs.Order.{key, rest};
-ghost use Rattle.vmd_sort.specs.Walk.{step, places_by, end_by, states_there, total};
+ghost use Rattle.vmd_sort.specs.Walk.{states_there, total};
+ghost use Rattle.vmd_sort.specs.Ranking.{places_in};
 ghost use Rattle.vmd_kept.specs.Window.{above, between, Rising, Holds, Cut};
 
-use vmd_sort::VmdOrder;
+use vmd_records::VmdParsedPropertyFrame;
+use vmd_sort::{VmdOrder, VmdRanking, VmdRun};
 
 // How many records, and how many IK states they have together.
-#[derive(Clone, Copy)]
+#[derive(Clone, Copy, PartialEq, Eq)]
 pub struct VmdKept {
     pub records: u64,
     pub ik_states: u64,
 }
 
-// The first m places are held; the ceiling is a place and 1, or 0 for none.
+// The first m places are held, of keys up to that of a place, if there is a ceiling.
 #[derive(Clone, Copy)]
 struct Held {
     m: usize,
-    ceil: u64,
+    ceil: Option<u64>,
+}
+
+// The records that are counted by their keys, which are of what stands at their places.
+#[derive(Clone, Copy)]
+struct Keyed<'a> {
+    run: VmdRun<'a>,
+    order: VmdOrder,
+    ghost few: { run.count ≤ 4294967295 },
+    ghost own: { (x : ℕ) → rest order x ≡ x },
 }
 
 const PLACES: usize = 32768;
@@ -29,160 +41,140 @@ const PLACES: usize = 32768;
 // What stays when the places are full.
 const KEPT: usize = 16384;
 
-// Whether the key of x is below that of y.
-fn key_before(s: &[u8], order: VmdOrder, x: u64, y: u64) -> bool
-    ensures { result ≡ ltb (key order s.now x) (key order s.now y) }
-{
-    if !vmd_sort::place_before(s, order, x, y) {
-        return false;
-    }
-    !vmd_sort::same_place(s, order, x, y)
-}
-
-// Whether a place's key lies above the floor's: a place and 1, or 0 for none.
-fn is_above(s: &[u8], order: VmdOrder, floor: u64, x: u64) -> bool
-    ensures { result ≡ above (key order s.now) floor x }
-{
-    if floor == 0 {
-        return true;
-    }
-    key_before(s, order, floor - 1, x)
-}
-
-// Whether a place's key lies above the floor's and not above the ceiling's.
-fn is_between(s: &[u8], order: VmdOrder, floor: u64, ceil: u64, x: u64) -> bool
-    ensures { result ≡ between (key order s.now) floor ceil x }
-{
-    if !is_above(s, order, floor, x) {
-        return false;
-    }
-    if ceil == 0 {
-        return true;
-    }
-    !is_above(s, order, ceil, x)
-}
-
 // How many of the k places stay; if not all of them, the last of these is the new ceiling.
-fn cut(a: &[u64], k: usize, ceil: u64) -> Held
-    requires { (k ≤ length a.now) × ((i : ℕ) → i < k → get_or a.now i 0 + 1 < 18446744073709551616) }
-    ensures { Cut k a.now ceil result.m result.ceil }
+fn cut(a: &[u64], k: usize, ceil: Option<u64>) -> Held
+    requires { k ≤ length a.now }
+    ensures { Cut k a.now (bound ceil) result.m (bound result.ceil) }
 {
     if k > KEPT {
         return Held {
             m: KEPT,
-            ceil: a[KEPT - 1] + 1,
+            ceil: Some(a[KEPT - 1]),
         };
     }
     Held { m: k, ceil }
 }
 
-// The places are full: keeps the last of each key, of as many keys as may stay. They go back into file order, so that of one
-// key the later record stands later when more come.
-fn squeeze(a: &mut [u64], s: &[u8], order: VmdOrder, ceil: u64) -> Held
-    requires { (length a.old ≡ 32768) × Rising (length s.now) a.old × ((x : ℕ) → rest order x ≡ x) }
-    ensures { (result.m ≤ 16384) × ((floor p : ℕ) (l : List ℕ) → Holds (key order s.now) floor ceil p a.old l → Holds (key order s.now) floor result.ceil p (take result.m a.new) l) }
-{
-    let k = vmd_sort::tidy_places(a, s, order);
-    let held = cut(a, k, ceil);
-    vmd_sort::sort_places(&mut a[..held.m], s, VmdOrder::Number);
-    held
-}
-
-// One place more.
-fn offer(a: &mut [u64], s: &[u8], order: VmdOrder, floor: u64, x: u64, m: usize, ceil: u64) -> Held
-    requires { (length a.old ≡ 32768) × (m < 32768) × (x < length s.now) × Rising x (take m a.old) × ((x : ℕ) → rest order x ≡ x) }
-    ensures { (result.m < 32768) × ((l : List ℕ) → Holds (key order s.now) floor ceil x (take m a.old) l → Holds (key order s.now) floor result.ceil (x + 1) (take result.m a.new) (l ++ x ∷ [])) }
-{
-    if !is_between(s, order, floor, ceil, x) {
-        return Held { m, ceil };
-    }
-    a[m] = x;
-    let k = m + 1;
-    if k < PLACES {
-        return Held { m: k, ceil };
-    }
-    squeeze(a, s, order, ceil)
-}
-
-// The keys above the floor and, if there are too many, not above the ceiling that it finds.
-fn pass(
-    a: &mut [u64],
-    s: &[u8],
-    at: usize,
-    n: usize,
-    size: usize,
-    order: VmdOrder,
-    floor: u64,
-) -> Held
-    requires { (length a.old ≡ 32768) × (end_by (step s.now size) n at ≤ length s.now) × ((x : ℕ) → rest order x ≡ x) }
-    ensures { (result.m < 32768) × Holds (key order s.now) floor result.ceil (length s.now) (take result.m a.new) (places_by (step s.now size) n at) }
-{
-    let mut i = 0;
-    let mut p = at;
-    let mut m = 0;
-    let mut ceil = 0;
-    while i < n {
-        let held = offer(a, s, order, floor, p as u64, m, ceil);
-        m = held.m;
-        ceil = held.ceil;
-        p = vmd_sort::next_place(s, p, size);
-        i += 1;
-    }
-    Held { m, ceil }
-}
-
-// The IK states of the property frames at the first k places, added up.
-fn weigh(a: &[u64], k: usize, s: &[u8]) -> u64
-    requires { (k ≤ length a.now) × (k ≤ 32768) }
-    ensures { result ≡ total (states_there s.now) (take k a.now) }
+// The IK states of the property frames at some places, added up.
+pub fn count_ik_states(s: &[u8], places: &[u64]) -> u64
+    requires { length places.now ≤ 4294967295 }
+    ensures { result ≡ total (states_there s.now) places.now }
 {
     let mut sum: u64 = 0;
-    let mut i = 0;
-    while i < k {
-        sum += vmd_sort::number_there(s, a[i], 5) as u64;
-        i += 1;
+    for x in places {
+        sum += vmd_sort::number_there(s, *x, VmdParsedPropertyFrame::IK_COUNT_OFFSET) as u64;
     }
     sum
 }
 
-// Counts what a pass has found.
-fn tally(a: &mut [u64], s: &[u8], order: VmdOrder) -> VmdKept
-    requires { (length a.old ≤ 32768) × Rising (length s.now) a.old × ((x : ℕ) → rest order x ≡ x) }
-    ensures { (result.records ≡ length (lasts (key order s.now) a.old)) × (result.ik_states ≡ total (states_there s.now) (lasts (key order s.now) a.old)) }
-{
-    let k = vmd_sort::tidy_places(a, s, order);
-    VmdKept {
-        records: k as u64,
-        ik_states: weigh(a, k, s),
-    }
-}
+impl<'a> Keyed<'a> {
+    ghost use Rattle.vmd_kept.specs.Keyed.{kept_key, file_end, kept_places};
 
-// Pass after pass, each from the ceiling of the one before.
-fn count(a: &mut [u64], s: &[u8], at: usize, n: usize, size: usize, order: VmdOrder) -> VmdKept
-    requires { (length a.old ≡ 32768) × (end_by (step s.now size) n at ≤ length s.now) × (n ≤ 4294967295) × ((x : ℕ) → rest order x ≡ x) }
-    ensures { (result.records ≡ length (lasts (key order s.now) (places_by (step s.now size) n at))) × (result.ik_states ≡ total (states_there s.now) (lasts (key order s.now) (places_by (step s.now size) n at))) }
-{
-    let mut records: u64 = 0;
-    let mut ik_states: u64 = 0;
-    let mut floor = 0;
-    loop {
-        let held = pass(a, s, at, n, size, order, floor);
-        let ceil = held.ceil;
-        let found = tally(&mut a[..held.m], s, order);
-        records += found.records;
-        ik_states += found.ik_states;
-        if ceil == 0 {
-            return VmdKept { records, ik_states };
+    // Whether a place's key lies above the floor's.
+    fn is_above(self, floor: Option<u64>, x: u64) -> bool
+        ensures { result ≡ above (kept_key self.entry) (bound floor) x }
+    {
+        let ranking = VmdRanking {
+            file: self.run.file,
+            order: self.order,
+        };
+        match floor {
+            None => true,
+            Some(f) => ranking.key_cmp(f, x).is_lt(),
         }
-        floor = ceil;
+    }
+
+    // Whether a place's key lies above the floor's and not above the ceiling's.
+    fn is_between(self, floor: Option<u64>, ceil: Option<u64>, x: u64) -> bool
+        ensures { result ≡ between (kept_key self.entry) (bound floor) (bound ceil) x }
+    {
+        self.is_above(floor, x) && (ceil.is_none() || !self.is_above(ceil, x))
+    }
+
+    // The places are full: keeps the last of each key, of as many keys as may stay. They go back into file order, so that of one
+    // key the later record stands later when more come.
+    fn squeeze(self, a: &mut [u64; PLACES], ceil: Option<u64>) -> Held
+        requires { Rising (file_end self) a.old }
+        ensures { (result.m ≤ 16384) × ((floor p : ℕ) (l : List ℕ) → Holds (kept_key self.entry) floor (bound ceil) p a.old l → Holds (kept_key self.entry) floor (bound result.ceil) p (take result.m a.new) l) }
+    {
+        let file = self.run.file;
+        let order = self.order;
+        let k = VmdRanking { file, order }.tidy_places(a);
+        let held = cut(a, k, ceil);
+        let order = VmdOrder::Number;
+        VmdRanking { file, order }.sort_places(&mut a[..held.m]);
+        held
+    }
+
+    // One place more.
+    fn offer(self, a: &mut [u64; PLACES], floor: Option<u64>, x: u64, held: Held) -> Held
+        requires { (held.m < 32768) × (x < file_end self) × Rising x (take held.m a.old) }
+        ensures { (result.m < 32768) × ((l : List ℕ) → Holds (kept_key self.entry) (bound floor) (bound held.ceil) x (take held.m a.old) l → Holds (kept_key self.entry) (bound floor) (bound result.ceil) (x + 1) (take result.m a.new) (l ++ x ∷ [])) }
+    {
+        let Held { m, ceil } = held;
+        if !self.is_between(floor, ceil, x) {
+            return held;
+        }
+        a[m] = x;
+        if m + 1 < PLACES {
+            return Held { m: m + 1, ceil };
+        }
+        self.squeeze(a, ceil)
+    }
+
+    // The keys above the floor and, if there are too many, not above the ceiling that it finds.
+    fn pass(self, a: &mut [u64; PLACES], floor: Option<u64>) -> Held
+        ensures { (result.m < 32768) × Holds (kept_key self.entry) (bound floor) (bound result.ceil) (file_end self.entry) (take result.m a.new) (kept_places self.entry) }
+    {
+        let mut held = Held { m: 0, ceil: None };
+        let mut p = self.run.place;
+        for _i in 0..self.run.count {
+            held = self.offer(a, floor, p as u64, held);
+            p = self.run.stride.next_place(self.run.file, p);
+        }
+        held
+    }
+
+    // Counts what a pass has found.
+    fn tally(self, a: &mut [u64]) -> VmdKept
+        requires { (length a.old ≤ 32768) × Rising (file_end self) a.old }
+        ensures { (result.records ≡ length (lasts (kept_key self.entry) a.old)) × (result.ik_states ≡ total (states_there self.entry.run.file.now) (lasts (kept_key self.entry) a.old)) }
+    {
+        let file = self.run.file;
+        let order = self.order;
+        let k = VmdRanking { file, order }.tidy_places(a);
+        VmdKept {
+            records: k as u64,
+            ik_states: count_ik_states(file, &a[..k]),
+        }
+    }
+
+    // Pass after pass, each from the ceiling of the one before.
+    fn count(self, a: &mut [u64; PLACES]) -> VmdKept
+        ensures { (result.records ≡ length (lasts (kept_key self.entry) (kept_places self.entry))) × (result.ik_states ≡ total (states_there self.entry.run.file.now) (lasts (kept_key self.entry) (kept_places self.entry))) }
+    {
+        let mut records: u64 = 0;
+        let mut ik_states: u64 = 0;
+        let mut floor = None;
+        // Pass after pass, as in vmd_count.
+        loop {
+            let held = self.pass(a, floor);
+            let found = self.tally(&mut a[..held.m]);
+            records += found.records;
+            ik_states += found.ik_states;
+            if held.ceil.is_none() {
+                return VmdKept { records, ik_states };
+            }
+            floor = held.ceil;
+        }
     }
 }
 
-// How many of the n records from a place on tidying keeps. They have one size, or, for size 0, are property frames.
-pub fn count_kept(s: &[u8], at: usize, n: usize, size: usize, order: VmdOrder) -> VmdKept
-    requires { (end_by (step s.now size) n at ≤ length s.now) × (n ≤ 4294967295) × ((x : ℕ) → rest order x ≡ x) }
-    ensures { (result.records ≡ length (lasts (key order s.now) (places_by (step s.now size) n at))) × (result.ik_states ≡ total (states_there s.now) (lasts (key order s.now) (places_by (step s.now size) n at))) }
+// How many of the records of a run tidying keeps.
+pub fn count_kept(run: VmdRun, order: VmdOrder) -> VmdKept
+    requires { (run.count ≤ 4294967295) × ((x : ℕ) → rest order x ≡ x) }
+    ensures { (result.records ≡ length (lasts (key order run.entry.file.now) (places_in run.entry))) × (result.ik_states ≡ total (states_there run.entry.file.now) (lasts (key order run.entry.file.now) (places_in run.entry))) }
 {
     let mut a = [0u64; PLACES];
-    count(&mut a, s, at, n, size, order)
+    Keyed { run, order }.count(&mut a)
 }

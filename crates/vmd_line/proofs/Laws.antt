@@ -6,11 +6,15 @@ use native.Mathlib.Omega.{arith}
 use borrow.Author.Tests.{le-leb, lt-leb}
 use lib.ListN.{length, get_or, set}
 use lib.Seq.{take_all}
+use Rattle.std.specs.Prelude.{Result, Ok, Err}
+use Rattle.std.specs.Result.{result_unwrap_or}
 use Rattle.vmd_format.specs.Refusal.{Refusal, number}
 use Rattle.vmd_format.specs.Answer.{Answer, declined, given, within}
 use Rattle.vmd_laws.specs.AnswerLaws.{within_fits}
 use Rattle.vmd_format.specs.Read.{Manner}
 use Rattle.vmd_format.specs.Opening.{Scan, Opening, open_file, scratch_after}
+use Rattle.vmd_base.specs.declared.VmdRefusal.{VmdRefusal}
+use Rattle.vmd_base.specs.Meaning.{refusal_of, answer_of}
 use Rattle.vmd_bytes.specs.Slices.{run}
 use Rattle.vmd_bytes.specs.Written.{Wrote}
 use Rattle.vmd_bytes.proofs.Laws.{run_snoc}
@@ -85,8 +89,10 @@ module _ (x : Scan) (h : export_size x ≤ 18446744073709551615) where
   size_is : {y : Answer ℕ} → y ≡ within 18446744073709551615 (export_size x) → given (export_size x) ≡ y
   size_is e = within_fits 18446744073709551615 (export_size x) h ∙ sym e
 
-  pub size_given : (y : Answer ℕ) (n : ℕ) → y ≡ within 18446744073709551615 (export_size x) → y ≡ given n → n ≡ export_size x
-  size_given y n e q = let z : given (export_size x) ≡ given n = size_is e ∙ q in cc
-
-  pub size_there : (y : Answer ℕ) (k : Refusal) → y ≡ within 18446744073709551615 (export_size x) → y ≡ declined k → 0 ≡ export_size x
-  size_there y k e q = let z : given (export_size x) ≡ declined k = size_is e ∙ q in let c : ◌≡◌ {A = ℕ} 0 1 = cc in absurd (omega arith)
+  -- what is there is given
+  pub size_value : (r : Result ℕ VmdRefusal) → answer_of r ≡ within 18446744073709551615 (export_size x) → result_unwrap_or r 0 ≡ export_size x
+  size_value (Ok n) e = let z : given (export_size x) ≡ given n = size_is e in cc
+  size_value (Err k) e =
+      let z : given (export_size x) ≡ declined (refusal_of k) = size_is e in
+      let c : ◌≡◌ {A = ℕ} 0 1 = cc in
+      absurd (omega arith)

@@ -11,8 +11,7 @@ ghost use Rattle.vmd_reader.specs.Meaning.{opening_is};
 ghost use Rattle.vmd_line.specs.Line.{row, refused_line, export_size, numbers, line, line_scratch};
 
 use vmd_base::{VmdEdition, VmdManner};
-use vmd_output::VmdWritten;
-use vmd_reader::{VmdOpened, VmdOpening};
+use vmd_reader::VmdOpening;
 use vmd_scan::VmdSections;
 
 // The longest file that is listed.
@@ -20,25 +19,24 @@ const MOST_BYTES: usize = 65536;
 
 const LINE_SIZE: usize = 256;
 
+// How many numbers a line has.
+const NUMBERS: usize = 10;
+
 // Writes ten numbers with single spaces between them and a line feed, and returns their length.
-fn write_row(out: &mut [u8], numbers: &[u64]) -> usize
-    requires { (length out.old ≡ 256) × (length numbers.now ≡ 10) }
+fn write_row(out: &mut [u8; LINE_SIZE], numbers: &[u64; NUMBERS]) -> usize
     ensures { Wrote out.old 0 (row numbers.now) out.new result }
 {
     let mut at = vmd_text::write_decimal(out, 0, numbers[0]);
-    let mut i = 1;
-    while i < 10 {
+    for i in 1..NUMBERS {
         out[at] = b' ';
         at = vmd_text::write_decimal(out, at + 1, numbers[i]);
-        i += 1;
     }
     out[at] = b'\n';
     at + 1
 }
 
 // Writes the line of a refusal, and returns its length.
-fn write_refused(out: &mut [u8], number: u32) -> usize
-    requires { length out.old ≡ 256 }
+fn write_refused(out: &mut [u8; LINE_SIZE], number: u32) -> usize
     ensures { Wrote out.old 0 (refused_line number) out.new result }
 {
     let at = vmd_text::write_text(out, 0, b"refused ");
@@ -51,24 +49,17 @@ fn export_size(sections: VmdSections) -> u64
     requires { sections.ik_states ≤ 65536 }
     ensures { result ≡ export_size (scan_is sections) }
 {
-    match vmd_output::file_size(
+    vmd_output::file_size(
         vmd_output::LARGEST,
         VmdEdition::Newer,
-        sections.bones.count,
-        sections.morphs.count,
-        sections.cameras.count,
-        sections.lights.count,
-        sections.self_shadows.count,
-        sections.properties.count,
+        sections.counts(),
         sections.ik_states,
-    ) {
-        VmdWritten::Refused(_) => 0,
-        VmdWritten::Bytes(n) => n,
-    }
+    )
+    .unwrap_or(0)
 }
 
 // The ten numbers of an opening.
-fn numbers_of(opening: VmdOpening) -> [u64; 10]
+fn numbers_of(opening: VmdOpening) -> [u64; NUMBERS]
     requires { opening.sections.ik_states ≤ 65536 }
     ensures { result ≡ numbers (opening_is opening) }
 {
@@ -90,8 +81,12 @@ fn numbers_of(opening: VmdOpening) -> [u64; 10]
 
 // Writes the line of a file, read in a manner, at the front of out, and returns its length. scratch is left as opening leaves
 // it.
-fn write_line(file: &[u8], manner: VmdManner, scratch: &mut [u64], out: &mut [u8]) -> usize
-    requires { length out.old ≡ 256 }
+fn write_line(
+    file: &[u8],
+    manner: VmdManner,
+    scratch: &mut [u64],
+    out: &mut [u8; LINE_SIZE],
+) -> usize
     ensures wrote { Wrote out.old 0 (line (manner_of manner) file.now (length scratch.old)) out.new result }
     ensures scratch_left { scratch.new ≡ line_scratch (manner_of manner) file.now scratch.old }
 {
@@ -99,8 +94,8 @@ fn write_line(file: &[u8], manner: VmdManner, scratch: &mut [u64], out: &mut [u8
         return vmd_text::write_text(out, 0, b"too long\n");
     }
     match vmd_reader::open_file(file, manner, scratch) {
-        VmdOpened::Refused(k) => write_refused(out, k.number()),
-        VmdOpened::Opened(opening) => {
+        Err(k) => write_refused(out, k.number()),
+        Ok(opening) => {
             let numbers = numbers_of(opening);
             write_row(out, &numbers)
         }

@@ -14,6 +14,7 @@ fn read_full<R: Read>(input: &mut R, file: &mut [u8]) -> usize
     ensures taken { Consumes (R.remaining input.old) (R.remaining input.new) (take result file.new) }
 {
     let mut done = 0;
+    // The library's read_exact tells no number where the input ends early, and its read_to_end wants the heap.
     while done < file.len() {
         match input.read(&mut file[done..]) {
             Ok(0) => break,

@@ -1,9 +1,10 @@
 -- What the types of the code mean in the terms of the format, by cases. Definitions only.
+use Rattle.std.specs.Prelude.{Result, Ok, Err}
 use Rattle.vmd_format.specs.Parts as format
 use Rattle.vmd_base.specs.Meaning.{refusal_of}
-use Rattle.vmd_names.specs.declared.Check.{Check}
-use Rattle.vmd_names.specs.declared.Check.TheVariants.{Passes, Fails}
+use Rattle.vmd_base.specs.declared.VmdRefusal.{VmdRefusal}
 
-abbrev pub check_of : Check → format.Check
-check_of Passes = format.passes
-check_of (Fails k) = format.fails (refusal_of k)
+-- what a check of the code found
+abbrev pub check_of : Result Unit VmdRefusal → format.Check
+check_of (Ok _) = format.passes
+check_of (Err k) = format.fails (refusal_of k)

@@ -1,6 +1,7 @@
-// The writing of a file, for every call that writes one: what it answers, how long a file is, the header, a count, and a
-// section from records of one file or two. Internal, but for the answer: callers see to the room. Every writer gives the place
-// after what it wrote, where the next one goes on.
+// The writing of a file, for every call that writes one: how long a file is, the header, a count, and a
+// section from records of one file or two. Internal: callers see to the room. Every writer gives the place
+// after what it wrote, where the next one goes on. `out` and `to` stand side by side, here and in the crates above: of a value
+// with both, each clause would have to say besides that the next writer's buffer is the one before's.
 #![tactic(auto)]
 
 ghost use Rattle.std.specs.Prelude.{◌≡◌, [], ◌∷◌, ◌++◌, ◌+◌, ◌≤◌, length};
@@ -9,25 +10,17 @@ ghost use Rattle.vmd_format.specs.Bytes.{u32_bytes};
 ghost use Rattle.vmd_format.specs.Read.{fixed, write_counted};
 ghost use Rattle.vmd_format.specs.Take.{property, magic_of, write_header};
 ghost use Rattle.vmd_format.specs.Join.{file_length};
-ghost use Rattle.vmd_base.specs.Meaning.{edition_is, extent_is};
+ghost use Rattle.vmd_base.specs.Meaning.{answer_of, edition_is, extent_is};
 ghost use Rattle.vmd_records.specs.Kinds.{layout, size_of};
-ghost use Rattle.vmd_output.specs.Meaning.{written_answer};
 ghost use Rattle.vmd_bytes.specs.Slices.{splice};
 ghost use Rattle.vmd_bytes.specs.Written.{Room, Wrote};
 ghost use Rattle.vmd_output.specs.Sections.{BothWithin, Frames, records_of, frames_of};
 
-use vmd_base::{VmdEdition, VmdRefusal, VmdSection};
+use vmd_base::{VmdCounts, VmdEdition, VmdRefusal, VmdSection};
 use vmd_records::{
     VmdKind, VmdParsedBoneFrame, VmdParsedCameraFrame, VmdParsedIkState, VmdParsedLightFrame,
-    VmdParsedMorphFrame, VmdParsedPropertyFrame, VmdParsedSelfShadowFrame,
+    VmdParsedMorphFrame, VmdParsedPropertyFrame, VmdParsedSelfShadowFrame, VmdRecord,
 };
-
-// What a call that writes answers: a refusal, or how many bytes.
-#[derive(Clone, Copy)]
-pub enum VmdWritten {
-    Refused(VmdRefusal),
-    Bytes(u64),
-}
 
 // ---- sizes, in bytes
 
@@ -37,46 +30,41 @@ const COUNT_SIZE: usize = 4;
 pub const BARE_SIZE: usize = vmd_base::MAGIC_SIZE + 6 * COUNT_SIZE;
 
 // The largest length of an output.
-pub const LARGEST: usize = 0xffff_ffff_ffff_ffff;
+pub const LARGEST: usize = usize::MAX;
 
 // The size of a file of so many bytes and so many more, where that is within a limit.
-pub fn size_within(limit: usize, front: usize, rest: usize) -> VmdWritten
-    ensures { written_answer result ≡ within limit (front + rest) }
+pub fn size_within(limit: usize, front: usize, rest: usize) -> Result<u64, VmdRefusal>
+    ensures { answer_of result ≡ within limit (front + rest) }
 {
     if limit < front {
-        return VmdWritten::Refused(VmdRefusal::OutputTooShort);
+        return Err(VmdRefusal::OutputTooShort);
     }
     if limit - front < rest {
-        return VmdWritten::Refused(VmdRefusal::OutputTooShort);
+        return Err(VmdRefusal::OutputTooShort);
     }
-    VmdWritten::Bytes((front + rest) as u64)
+    Ok((front + rest) as u64)
 }
 
 // The size of a file of so many records. Only the IK states can be so many that the sum would not fit.
 pub fn file_size(
     limit: usize,
     edition: VmdEdition,
-    bones: u32,
-    morphs: u32,
-    cameras: u32,
-    lights: u32,
-    self_shadows: u32,
-    properties: u32,
+    counts: VmdCounts,
     ik_states: u64,
-) -> VmdWritten
-    ensures { written_answer result ≡ within limit (file_length (edition_is edition) bones morphs cameras lights self_shadows properties ik_states) }
+) -> Result<u64, VmdRefusal>
+    ensures { answer_of result ≡ within limit (file_length (edition_is edition) counts.bones counts.morphs counts.cameras counts.lights counts.self_shadows counts.properties ik_states) }
 {
     let states = ik_states as usize;
     let front = BARE_SIZE
         + edition.model_width()
-        + VmdParsedBoneFrame::SIZE * bones as usize
-        + VmdParsedMorphFrame::SIZE * morphs as usize
-        + VmdParsedCameraFrame::SIZE * cameras as usize
-        + VmdParsedLightFrame::SIZE * lights as usize
-        + VmdParsedSelfShadowFrame::SIZE * self_shadows as usize
-        + VmdParsedPropertyFrame::SIZE * properties as usize;
+        + VmdParsedBoneFrame::SIZE * counts.bones as usize
+        + VmdParsedMorphFrame::SIZE * counts.morphs as usize
+        + VmdParsedCameraFrame::SIZE * counts.cameras as usize
+        + VmdParsedLightFrame::SIZE * counts.lights as usize
+        + VmdParsedSelfShadowFrame::SIZE * counts.self_shadows as usize
+        + VmdParsedPropertyFrame::SIZE * counts.properties as usize;
     if LARGEST / VmdParsedIkState::SIZE < states {
-        return VmdWritten::Refused(VmdRefusal::OutputTooShort);
+        return Err(VmdRefusal::OutputTooShort);
     }
     size_within(limit, front, VmdParsedIkState::SIZE * states)
 }
@@ -134,7 +122,8 @@ pub fn write_section(
     vmd_writers::write_records(out, q, kind, second, b.place, b.count as usize)
 }
 
-// Property frames with their IK states.
+// Property frames with their IK states. Not one function with the records', here and in the crates above: property frames have
+// no one size, so what is promised of them is of other rows.
 pub fn write_property_section(
     out: &mut [u8],
     to: usize,

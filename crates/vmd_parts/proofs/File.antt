@@ -42,13 +42,13 @@ abbrev morphs : NameTable → List ℕ → List ℕ → List ℕ → List Morph
 morphs t i fs ws = map (morph_of t i fs ws) (upto 0 (length i))
 
 -- the header, a count, the bones, a count and the morphs are left
-pub front_rest : {t u : NameTable} {i fs tr ro ip j gs ws l : List ℕ} (b : BonesFit t i fs tr ro ip) (c : MorphsFit u j gs ws) (m : List ℕ)
-    → Room l 0 (front_bytes m (bones t i fs tr ro ip) (morphs u j gs ws))
+pub front_rest : {t u : NameTable} {i fs tr ro ip j gs ws l : List ℕ} (b : BonesFit t i fs tr ro ip) (c : MorphsFit u j gs ws) (m : List ℕ) {n k : ℕ}
+    → n ≡ length i → k ≡ length j → Room l 0 (front_bytes m (bones t i fs tr ro ip) (morphs u j gs ws))
     → Rest l 0 (front_bytes m (bones t i fs tr ro ip) (morphs u j gs ws)) l 0
-    (write_header newer m ++ (u32_bytes (length i) ++ (write_all bone.encode (bones t i fs tr ro ip) ++ (u32_bytes (length j) ++ write_all morph.encode (morphs u j gs ws)))))
+    (write_header newer m ++ (u32_bytes n ++ (write_all bone.encode (bones t i fs tr ro ip) ++ (u32_bytes k ++ write_all morph.encode (morphs u j gs ws)))))
 unfolding front_bytes write_counted fixed
-front_rest {t} {u} {i} {fs} {tr} {ro} {ip} {j} {gs} {ws} b c m h =
-    rest_as (rw (column_length (bone_of t i fs tr ro ip) (length i), column_length (morph_of u j gs ws) (length j)) (simp append_assoc)) h
+front_rest {t} {u} {i} {fs} {tr} {ro} {ip} {j} {gs} {ws} b c m e f h =
+    rest_as (rw (e, f, column_length (bone_of t i fs tr ro ip) (length i), column_length (morph_of u j gs ws) (length j)) (simp append_assoc)) h
 
 -- ---- records that fill their bytes
 

@@ -1,15 +1,8 @@
--- What a place means in the terms of the format, and where an IK state stands. Definitions only.
+-- Where an IK state stands. Definitions only.
 use Rattle.std.specs.Prelude.{ℕ, List}
-use Rattle.vmd_format.specs.Answer.{Answer, declined, given, and_then}
+use Rattle.vmd_format.specs.Answer.{Answer, and_then}
 use Rattle.vmd_format.specs.Opening.{Extent}
 use Rattle.vmd_format.specs.Fetch.{record_place, property_place, ik_extent}
-use Rattle.vmd_base.specs.Meaning.{refusal_of}
-use Rattle.vmd_places.specs.declared.VmdPlace.{VmdPlace}
-use Rattle.vmd_places.specs.declared.VmdPlace.TheVariants as place
-
-abbrev pub place_answer : VmdPlace → Answer ℕ
-place_answer (place.Refused k) = declined (refusal_of k)
-place_answer (place.At at) = given at
 
 -- where IK state j of property frame i stands
 unfoldable pub ik_place : Extent → List ℕ → ℕ → ℕ → List ℕ → Answer ℕ

@@ -4,38 +4,37 @@
 ghost use Rattle.std.specs.Prelude.{◌≡◌, ◌+◌, ◌≤◌, leb, length, take, drop};
 ghost use Rattle.vmd_format.specs.Fetch.{record_place, next_place, walk_frames, frame_place, property_place};
 ghost use Rattle.vmd_laws.specs.PlacesLaws.{Holds};
-ghost use Rattle.vmd_base.specs.Meaning.{extent_is};
-ghost use Rattle.vmd_places.specs.Meaning.{place_answer, ik_place};
+ghost use Rattle.vmd_base.specs.Meaning.{answer_of, extent_is};
+ghost use Rattle.vmd_places.specs.Meaning.{ik_place};
 ghost use Rattle.vmd_places.specs.Parts.{file_part, part_in, name_in, there};
 
 use vmd_base::{FRAMES_PER_PLACE, VmdPart, VmdRefusal, VmdSection};
-use vmd_records::{VmdParsedIkState, VmdParsedPropertyFrame};
-
-#[derive(Clone, Copy)]
-pub enum VmdPlace {
-    Refused(VmdRefusal),
-    At(usize),
-}
+use vmd_records::{VmdParsedIkState, VmdParsedPropertyFrame, VmdRecord};
 
 // ---- places
 
 // Where record i of a section stands, all of it in the file.
-pub fn place_of(file: &[u8], section: VmdSection, record_size: usize, i: usize) -> VmdPlace
+pub fn place_of(
+    file: &[u8],
+    section: VmdSection,
+    record_size: usize,
+    i: usize,
+) -> Result<usize, VmdRefusal>
     requires { record_size ≤ 111 }
-    ensures { place_answer result ≡ record_place record_size (extent_is section) i file.now }
+    ensures { answer_of result ≡ record_place record_size (extent_is section) i file.now }
 {
     let place = section.place;
     if (section.count as usize) <= i {
-        return VmdPlace::Refused(VmdRefusal::Outside);
+        return Err(VmdRefusal::Outside);
     }
     if file.len() < place {
-        return VmdPlace::Refused(VmdRefusal::Outside);
+        return Err(VmdRefusal::Outside);
     }
     let offset = i * record_size;
     if file.len() - place < offset + record_size {
-        return VmdPlace::Refused(VmdRefusal::Outside);
+        return Err(VmdRefusal::Outside);
     }
-    VmdPlace::At(place + offset)
+    Ok(place + offset)
 }
 
 // Whether the nine bytes of a property frame at a place lie in the file. No sum wraps.
@@ -50,62 +49,60 @@ fn holds_frame(file: &[u8], at: usize) -> bool
 
 // Where the property frame at a place ends, with its IK states, and the next one stands; refused where not all of it lies in
 // the file.
-pub fn next_place(file: &[u8], at: usize) -> VmdPlace
-    ensures { place_answer result ≡ next_place file.now at }
+pub fn next_place(file: &[u8], at: usize) -> Result<usize, VmdRefusal>
+    ensures { answer_of result ≡ next_place file.now at }
 {
     if !holds_frame(file, at) {
-        return VmdPlace::Refused(VmdRefusal::Outside);
+        return Err(VmdRefusal::Outside);
     }
     let states = vmd_bytes::read_u32_le(file, at + VmdParsedPropertyFrame::IK_COUNT_OFFSET);
     let bytes = (states as usize) * VmdParsedIkState::SIZE;
     if file.len() - at - VmdParsedPropertyFrame::SIZE < bytes {
-        return VmdPlace::Refused(VmdRefusal::Outside);
+        return Err(VmdRefusal::Outside);
     }
-    VmdPlace::At(at + VmdParsedPropertyFrame::SIZE + bytes)
+    Ok(at + VmdParsedPropertyFrame::SIZE + bytes)
 }
 
 // The place after n property frames from a place on; refused where one of them does not lie in the file.
-fn walk_frames(file: &[u8], place: usize, n: usize) -> VmdPlace
-    ensures { place_answer result ≡ walk_frames file.now n place }
+fn walk_frames(file: &[u8], place: usize, n: usize) -> Result<usize, VmdRefusal>
+    ensures { answer_of result ≡ walk_frames file.now n place }
 {
     let mut at = place;
-    let mut i = 0;
-    while i < n {
-        match next_place(file, at) {
-            VmdPlace::Refused(k) => return VmdPlace::Refused(k),
-            VmdPlace::At(next) => at = next,
-        }
-        i += 1;
+    for _ in 0..n {
+        at = next_place(file, at)?;
     }
-    VmdPlace::At(at)
+    Ok(at)
 }
 
 // A property frame at a place: its nine bytes lie in the file.
-fn frame_place(file: &[u8], at: usize) -> VmdPlace
-    ensures { place_answer result ≡ frame_place file.now at }
+fn frame_place(file: &[u8], at: usize) -> Result<usize, VmdRefusal>
+    ensures { answer_of result ≡ frame_place file.now at }
 {
     if holds_frame(file, at) {
-        return VmdPlace::At(at);
+        return Ok(at);
     }
-    VmdPlace::Refused(VmdRefusal::Outside)
+    Err(VmdRefusal::Outside)
 }
 
 // Where property frame i stands: a walk leads to it from the place that the scratch names. Every call for property frames, IK
 // states and IK names goes through here.
-pub fn place_of_property(file: &[u8], section: VmdSection, scratch: &[u64], i: usize) -> VmdPlace
-    ensures { place_answer result ≡ property_place (extent_is section) scratch.now i file.now }
+pub fn place_of_property(
+    file: &[u8],
+    section: VmdSection,
+    scratch: &[u64],
+    i: usize,
+) -> Result<usize, VmdRefusal>
+    ensures { answer_of result ≡ property_place (extent_is section) scratch.now i file.now }
 {
     if i >= (section.count as usize) {
-        return VmdPlace::Refused(VmdRefusal::Outside);
+        return Err(VmdRefusal::Outside);
     }
     let j = i / FRAMES_PER_PLACE;
     if scratch.len() <= j {
-        return VmdPlace::Refused(VmdRefusal::Outside);
+        return Err(VmdRefusal::Outside);
     }
-    match walk_frames(file, scratch[j] as usize, i % FRAMES_PER_PLACE) {
-        VmdPlace::Refused(k) => VmdPlace::Refused(k),
-        VmdPlace::At(at) => frame_place(file, at),
-    }
+    let at = walk_frames(file, scratch[j] as usize, i % FRAMES_PER_PLACE)?;
+    frame_place(file, at)
 }
 
 // Where IK state j of property frame i stands.
@@ -115,17 +112,13 @@ pub fn place_of_ik_state(
     scratch: &[u64],
     i: usize,
     j: usize,
-) -> VmdPlace
-    ensures { place_answer result ≡ ik_place (extent_is section) scratch.now i j file.now }
+) -> Result<usize, VmdRefusal>
+    ensures { answer_of result ≡ ik_place (extent_is section) scratch.now i j file.now }
 {
-    match place_of_property(file, section, scratch, i) {
-        VmdPlace::Refused(k) => VmdPlace::Refused(k),
-        VmdPlace::At(at) => {
-            let count = vmd_bytes::read_u32_le(file, at + VmdParsedPropertyFrame::IK_COUNT_OFFSET);
-            let place = at + VmdParsedPropertyFrame::SIZE;
-            place_of(file, VmdSection { count, place }, VmdParsedIkState::SIZE, j)
-        }
-    }
+    let at = place_of_property(file, section, scratch, i)?;
+    let count = vmd_bytes::read_u32_le(file, at + VmdParsedPropertyFrame::IK_COUNT_OFFSET);
+    let place = at + VmdParsedPropertyFrame::SIZE;
+    place_of(file, VmdSection { count, place }, VmdParsedIkState::SIZE, j)
 }
 
 // The bytes from a place on; none where it is past the end.
@@ -160,24 +153,24 @@ pub fn name_at(file: &[u8], at: usize, width: usize) -> VmdPart
 }
 
 // The name at the front of a record.
-pub fn name_of(file: &[u8], place: VmdPlace, width: usize) -> VmdPart
-    requires { Holds (λ at. at + width ≤ length file.now) (place_answer place) }
-    ensures { result ≡ part_in (place_answer place) 0 (there (name_in width) 0 (place_answer place) file.now) }
+pub fn name_of(file: &[u8], place: Result<usize, VmdRefusal>, width: usize) -> VmdPart
+    requires { Holds (λ at. at + width ≤ length file.now) (answer_of place) }
+    ensures { result ≡ part_in (answer_of place) 0 (there (name_in width) 0 (answer_of place) file.now) }
 {
     match place {
-        VmdPlace::Refused(_) => VmdPart { at: 0, len: 0 },
-        VmdPlace::At(at) => name_at(file, at, width),
+        Err(_) => VmdPart { at: 0, len: 0 },
+        Ok(at) => name_at(file, at, width),
     }
 }
 
 // n bytes, so far into a record.
-pub fn bytes_of(file: &[u8], place: VmdPlace, offset: usize, n: usize) -> VmdPart
-    requires { Holds (λ at. at + offset + n ≤ length file.now) (place_answer place) }
-    ensures { result ≡ part_in (place_answer place) offset (there (take n) offset (place_answer place) file.now) }
+pub fn bytes_of(file: &[u8], place: Result<usize, VmdRefusal>, offset: usize, n: usize) -> VmdPart
+    requires { Holds (λ at. at + offset + n ≤ length file.now) (answer_of place) }
+    ensures { result ≡ part_in (answer_of place) offset (there (take n) offset (answer_of place) file.now) }
 {
     match place {
-        VmdPlace::Refused(_) => VmdPart { at: 0, len: 0 },
-        VmdPlace::At(at) => file_part(at + offset, n),
+        Err(_) => VmdPart { at: 0, len: 0 },
+        Ok(at) => file_part(at + offset, n),
     }
 }
 

@@ -1,14 +1,13 @@
 -- The table's agreement with the runs: one test that is computed, carried to each pointer. Assumes nothing.
-use Prim.Native.Nat.{ℕ, zero, suc, ◌+◌, ◌*◌, ◌/◌, ◌%◌, ◌^◌, ◌≤◌, ◌<◌}
+use Prim.Native.Nat.{ℕ, zero, suc, ◌+◌, ◌*◌, ◌/◌, ◌%◌, ◌^◌, ◌<◌}
 use mathlib.Core.Path.{◌≡◌, refl, sym, ◌∙◌, ap}
 use mathlib.Core.Bool.{Bool, true, false, ◌&&◌}
 use mathlib.Core.List.{List, [], ◌∷◌}
 use native.Mathlib.Omega.{arith}
 use native.Mathlib.Nat.{div-div-eq-div-mul, pow-succ', pow-zero, div-one}
 use lib.ListN.{length, get_or}
-use lib.Dec.{leb, eqb, T}
+use lib.Dec.{eqb, T}
 use lib.Ieee.Fits.{and_l, and_r}
-use borrow.Author.Tests.{le-leb, lt-leb}
 use Rattle.vmd_format.specs.Characters.{between, in_index, character}
 use Rattle.vmd_presence.specs.Presence.{bit, Presence}
 
@@ -58,15 +57,10 @@ right {l} e t = record { long = e; bits = λ (p : ℕ) (h : p < 11296). words_bi
 -- ---- what a bit says of a pointer
 
 module _ {words : List ℕ} (w : Presence words) (p : ℕ) (h : p < 11280) {r : Bool} (e : r ≡ bit words p) where
-  pub in_table : r ≡ true → true ≡ character p
+  pub in_table : r ≡ true → r ≡ character p
   unfolding character
   in_table t = rw (← w.bits p (omega arith), ← e, t)
 
-  module _ (f : r ≡ false) where
-    pub below_private : p < 8836 → false ≡ character p
-    unfolding character between
-    below_private b = rw (← w.bits p (omega arith), ← e, f, lt-leb 8836 p b)
-
-    pub from_private : 8836 ≤ p → leb p 10715 ≡ character p
-    unfolding character between
-    from_private b = rw (← w.bits p (omega arith), ← e, f, le-leb 8836 p b)
+  pub outside : r ≡ false → {q : Bool} → q ≡ between 8836 10715 p → q ≡ character p
+  unfolding character
+  outside f q = rw (← w.bits p (omega arith), ← e, f) q

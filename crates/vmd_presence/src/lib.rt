@@ -54,32 +54,35 @@ const PRESENCE: [u32; WORDS] = [
     4294967295, 4294967295, 0, 0, 0, 0, 0, 0,
 ];
 
+// The table, and that it is the index's.
+#[derive(Drop)]
+pub struct VmdPresence {
+    pub words: [u32; WORDS],
+    pub ghost right: { Presence words },
+}
+
 // The table as a value: a constant is laid out anew where it is named, so who asks for many pairs asks for it once.
-pub fn presence() -> [u32; WORDS]
-    ensures { Presence result }
+pub fn presence() -> VmdPresence
+    ensures { Presence result.words }
 {
-    PRESENCE
+    VmdPresence { words: PRESENCE }
 }
 
-fn bit_at(words: &[u32; WORDS], pointer: usize) -> bool
-    requires { pointer < 11280 }
-    ensures { result ≡ bit words.now pointer }
-{
-    let word = words[pointer / WORD_BITS];
-    (word >> ((pointer % WORD_BITS) as u32)) % 2 == 1
-}
+impl VmdPresence {
+    #[tactic(auto, unfolding(crate::specs::Presence::bit))]
+    fn bit_at(&self, pointer: usize) -> bool
+        requires { pointer < 11280 }
+        ensures { result ≡ bit self.now.words pointer }
+    {
+        let word = self.words[pointer / WORD_BITS];
+        (word >> ((pointer % WORD_BITS) as u32)) % 2 == 1
+    }
 
-// Whether a pair with this pointer has a character.
-pub fn has_character(words: &[u32; WORDS], pointer: usize) -> bool
-    requires pointer_bound { pointer < 11280 }
-    requires presence { Presence words.now }
-    ensures { result ≡ character pointer }
-{
-    if bit_at(words, pointer) {
-        return true;
+    // Whether a pair with this pointer has a character.
+    pub fn has_character(&self, pointer: usize) -> bool
+        requires { pointer < 11280 }
+        ensures { result ≡ character pointer }
+    {
+        self.bit_at(pointer) || matches!(pointer, PRIVATE_FIRST..=PRIVATE_LAST)
     }
-    if pointer < PRIVATE_FIRST {
-        return false;
-    }
-    pointer <= PRIVATE_LAST
 }

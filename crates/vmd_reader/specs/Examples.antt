@@ -1,16 +1,15 @@
 -- What the answers of the reader mean, with other values in every field and place, so that one out of its place shows.
-use Rattle.std.specs.Prelude.{◌≡◌, refl, true, ◌&&◌, eqb, T}
+use Rattle.std.specs.Prelude.{◌≡◌, ℕ, refl, true, ◌&&◌, eqb, T, Ok, Err}
 use Rattle.vmd_format.specs.Refusal.{number, outside, scratch_too_short}
 use Rattle.vmd_format.specs.Answer.{declined, given}
-use Rattle.vmd_base.specs.Meaning.{refusal_of}
+use Rattle.vmd_base.specs.Meaning.{refusal_of, answer, answer_of}
 use Rattle.vmd_base.specs.declared.VmdRefusal.TheVariants.{FileEndsEarly, MagicDiffers, ScratchTooShort, Outside, PartsNotWhole, NameUnfit, NameNotGood, NotFinite, SelfShadowUnfit, ColumnsDisagree, CountTooLarge, NameIndexTooLarge, OutputTooShort, PartsDoNotFit, ModelNameTooLong, BytesOver, CountOversized, FirstAboveLast}
-use Rattle.vmd_reader.specs.declared.VmdOpened.TheVariants as opened
-use Rattle.vmd_reader.specs.declared.VmdBoneAnswer.TheVariants as bone
-use Rattle.vmd_reader.specs.declared.VmdMorphAnswer.TheVariants as morph
-use Rattle.vmd_reader.specs.declared.VmdPropertyStep.TheVariants as step
-use Rattle.vmd_reader.specs.declared.VmdIkStateAnswer.TheVariants as ik_state
 use Rattle.vmd_records.specs.Fields.{property_fields}
-use Rattle.vmd_reader.specs.Meaning.{opening_answer, bone_answer, morph_answer, step_fields, step_answer, ik_state_answer}
+use Rattle.vmd_records.specs.declared.VmdParsedBoneFrame.{VmdParsedBoneFrame}
+use Rattle.vmd_records.specs.declared.VmdParsedMorphFrame.{VmdParsedMorphFrame}
+use Rattle.vmd_records.specs.declared.VmdParsedPropertyFrame.{VmdParsedPropertyFrame}
+use Rattle.vmd_records.specs.declared.VmdParsedIkState.{VmdParsedIkState}
+use Rattle.vmd_reader.specs.Meaning.{opening_is, step_fields}
 
 -- the numbers of document 01's table, and those of 02 a), e), i) and j)
 pub numbers : T (
@@ -36,8 +35,8 @@ numbers = tt
 
 -- an opening that is given, and one that is refused
 pub an_opening :
-    (opening_answer
-    (opened.Opened
+    (answer opening_is
+    (Ok
     (record {
       sections = record {
         bones = record { count = 1; place = 54 };
@@ -64,20 +63,20 @@ pub an_opening :
       smallest_frame = 8;
       largest_frame = 9;
     }))
-    × (opening_answer (opened.Refused ScratchTooShort) ≡ declined scratch_too_short)
+    × (answer opening_is (Err ScratchTooShort) ≡ declined scratch_too_short)
 an_opening = (refl, refl)
 
 -- a record that is found is given as it is; the answers of the other kinds have the same two cases
 pub answers :
-    (bone_answer (bone.Refused Outside) ≡ declined outside)
-    × (morph_answer (morph.Found (record { frame = 1; weight = 2 })) ≡ given (record { frame = 1; weight = 2 }))
-    × (ik_state_answer (ik_state.Refused Outside) ≡ declined outside)
+    (answer_of {A = VmdParsedBoneFrame} (Err Outside) ≡ declined outside)
+    × (answer_of {A = VmdParsedMorphFrame} (Ok (record { frame = 1; weight = 2 })) ≡ given (record { frame = 1; weight = 2 }))
+    × (answer_of {A = VmdParsedIkState} (Err Outside) ≡ declined outside)
 answers = (refl, refl, refl)
 
 -- a property frame with the place of the next one
 pub steps :
-    (step_answer (step.Found (record { frame = 1; visible = true; ik_count = 2 }) 3) ≡ given (record { frame = 1; visible = true; ik_count = 2 }, 3))
-    × (step_answer (step.Refused Outside) ≡ declined outside)
+    (answer_of {A = VmdParsedPropertyFrame × ℕ} (Ok (record { frame = 1; visible = true; ik_count = 2 }, 3)) ≡ given (record { frame = 1; visible = true; ik_count = 2 }, 3))
+    × (answer_of {A = VmdParsedPropertyFrame × ℕ} (Err Outside) ≡ declined outside)
     × (step_fields (record { head = record { frame = 1; visible = true; ik_count = 2 }; next = 3 }) ≡ (record { frame = 1; visible = true; ik_count = 2 }, 3))
 unfolding property_fields
 steps = (refl, refl, refl)

@@ -1,4 +1,6 @@
 pub mod Fields
 pub mod Kinds
 pub mod KindLaws
+pub mod PropertyRow
+pub mod RowLaws
 pub mod Examples

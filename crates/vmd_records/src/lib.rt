@@ -2,28 +2,27 @@
 // light with six floats. Names and interpolation bytes are parts of the file, and not here.
 #![tactic(auto)]
 
-ghost use Rattle.std.specs.Prelude.{◌≡◌, ◌≤◌, ◌<◌, get_or, drop};
+ghost use Rattle.std.specs.Prelude.{◌≡◌, refl, ◌≤◌, ℕ, get_or, drop};
+ghost use Rattle.std.proofs.lemmas.Bool.{leb-true};
 ghost use Rattle.std.specs.Float.{binary32};
 ghost use Rattle.std.specs.Float.Ieee.{of_bits};
 ghost use Rattle.vmd_format.specs.Bytes.{u32};
-ghost use Rattle.vmd_format.specs.Records.{bone, morph, camera, light, self_shadow, ik_state};
-ghost use Rattle.vmd_format.specs.Fetch.{property_at};
+ghost use Rattle.vmd_format.specs.Layout.{Layout};
+ghost use Rattle.vmd_format.specs.Records.{Bone, Morph, Camera, Light, SelfShadow, IkState, bone, morph, camera, light, self_shadow, ik_state};
+ghost use Rattle.vmd_format.specs.Fetch.{PropertyHead};
+ghost use Rattle.vmd_laws.specs.SizedLaws.{Sized, bone_sized, morph_sized, camera_sized, light_sized, self_shadow_sized, ik_state_sized};
 ghost use Rattle.vmd_records.specs.Kinds.{size_of, frame_at};
+ghost use Rattle.vmd_records.specs.PropertyRow.{property_row};
+ghost use Rattle.vmd_records.specs.RowLaws.{property_sized};
 ghost use Rattle.vmd_records.specs.Fields.{bone_fields, morph_fields, camera_fields, light_floats, light_bits, self_shadow_fields, property_fields, ik_fields};
 
 // ---- fields
 
-// The byte at `at`; 0 where there is none.
+// The byte at `at`; 0 where there is none, as `decode` of the layouts has it, by which from_bytes promises.
 fn byte_at(bytes: &[u8], at: usize) -> u8
     ensures { result ≡ get_or bytes.now at 0 }
 {
-    if at < bytes.len() { bytes[at] } else { 0 }
-}
-
-fn wide(b: u8) -> u32
-    ensures { (result ≡ b) × (result < 256) }
-{
-    b as u32
+    bytes.get(at).copied().unwrap_or(0)
 }
 
 // The number in the four bytes from `at` on, an offset in a record; a missing byte counts as 0.
@@ -34,10 +33,12 @@ fn number_at(bytes: &[u8], at: usize) -> u32
     if at + 4 <= bytes.len() {
         return vmd_bytes::read_u32_le(bytes, at);
     }
-    wide(byte_at(bytes, at))
-        + 256 * wide(byte_at(bytes, at + 1))
-        + 65536 * wide(byte_at(bytes, at + 2))
-        + 16777216 * wide(byte_at(bytes, at + 3))
+    u32::from_le_bytes([
+        byte_at(bytes, at),
+        byte_at(bytes, at + 1),
+        byte_at(bytes, at + 2),
+        byte_at(bytes, at + 3),
+    ])
 }
 
 // The float whose bits are there.
@@ -50,7 +51,28 @@ fn float_at(bytes: &[u8], at: usize) -> f32
 
 // ---- records
 
-#[derive(Clone, Copy)]
+// A kind of record: its size in a file, its layout, and what a value of the type holds of a record that the layout reads.
+pub trait VmdRecord {
+    const SIZE: usize;
+
+    ghost SIZE: { ℕ };
+
+    ghost Row: { Type 0 };
+
+    ghost layout: { Layout Row };
+
+    ghost fields: { Row → Self };
+
+    fn from_bytes(bytes: &[u8]) -> Self
+        ensures { result ≡ fields (layout.decode bytes.now) };
+
+    ghost sized: { Sized layout SIZE };
+
+    // The largest is a bone.
+    ghost size_bound: { SIZE ≤ 111 };
+}
+
+#[derive(Clone, Copy, Debug, PartialEq, Eq)]
 pub struct VmdParsedBoneFrame {
     pub frame: u32,
     pub translation_x: u32,
@@ -63,8 +85,6 @@ pub struct VmdParsedBoneFrame {
 }
 
 impl VmdParsedBoneFrame {
-    pub const SIZE: usize = 111;
-
     pub const NAME_WIDTH: usize = 15;
 
     pub const FRAME_OFFSET: usize = 15;
@@ -76,10 +96,20 @@ impl VmdParsedBoneFrame {
     pub const INTERPOLATION_OFFSET: usize = 47;
 
     pub const INTERPOLATION_SIZE: usize = 64;
+}
 
-    pub fn from_bytes(bytes: &[u8]) -> VmdParsedBoneFrame
-        ensures { result ≡ bone_fields (bone.decode bytes.now) }
-    {
+impl VmdRecord for VmdParsedBoneFrame {
+    const SIZE: usize = 111;
+
+    ghost SIZE = { 111 };
+
+    ghost Row = { Bone };
+
+    ghost layout = { bone };
+
+    ghost fields = { bone_fields };
+
+    fn from_bytes(bytes: &[u8]) -> VmdParsedBoneFrame {
         VmdParsedBoneFrame {
             frame: number_at(bytes, VmdParsedBoneFrame::FRAME_OFFSET),
             translation_x: number_at(bytes, VmdParsedBoneFrame::TRANSLATION_OFFSET),
@@ -91,34 +121,50 @@ impl VmdParsedBoneFrame {
             rotation_w: number_at(bytes, 43),
         }
     }
+
+    ghost sized = { bone_sized };
+
+    ghost size_bound = { leb-true 111 111 refl };
 }
 
-#[derive(Clone, Copy)]
+#[derive(Clone, Copy, Debug, PartialEq, Eq)]
 pub struct VmdParsedMorphFrame {
     pub frame: u32,
     pub weight: u32,
 }
 
 impl VmdParsedMorphFrame {
-    pub const SIZE: usize = 23;
-
     pub const NAME_WIDTH: usize = 15;
 
     pub const FRAME_OFFSET: usize = 15;
 
     pub const WEIGHT_OFFSET: usize = 19;
+}
 
-    pub fn from_bytes(bytes: &[u8]) -> VmdParsedMorphFrame
-        ensures { result ≡ morph_fields (morph.decode bytes.now) }
-    {
+impl VmdRecord for VmdParsedMorphFrame {
+    const SIZE: usize = 23;
+
+    ghost SIZE = { 23 };
+
+    ghost Row = { Morph };
+
+    ghost layout = { morph };
+
+    ghost fields = { morph_fields };
+
+    fn from_bytes(bytes: &[u8]) -> VmdParsedMorphFrame {
         VmdParsedMorphFrame {
             frame: number_at(bytes, VmdParsedMorphFrame::FRAME_OFFSET),
             weight: number_at(bytes, VmdParsedMorphFrame::WEIGHT_OFFSET),
         }
     }
+
+    ghost sized = { morph_sized };
+
+    ghost size_bound = { leb-true 23 111 refl };
 }
 
-#[derive(Clone, Copy)]
+#[derive(Clone, Copy, Debug, PartialEq, Eq)]
 pub struct VmdParsedCameraFrame {
     pub frame: u32,
     pub distance: u32,
@@ -133,8 +179,6 @@ pub struct VmdParsedCameraFrame {
 }
 
 impl VmdParsedCameraFrame {
-    pub const SIZE: usize = 61;
-
     pub const FRAME_OFFSET: usize = 0;
 
     pub const INTERPOLATION_OFFSET: usize = 32;
@@ -142,10 +186,20 @@ impl VmdParsedCameraFrame {
     pub const FOV_OFFSET: usize = 56;
 
     pub const PERSPECTIVE_OFFSET: usize = 60;
+}
 
-    pub fn from_bytes(bytes: &[u8]) -> VmdParsedCameraFrame
-        ensures { result ≡ camera_fields (camera.decode bytes.now) }
-    {
+impl VmdRecord for VmdParsedCameraFrame {
+    const SIZE: usize = 61;
+
+    ghost SIZE = { 61 };
+
+    ghost Row = { Camera };
+
+    ghost layout = { camera };
+
+    ghost fields = { camera_fields };
+
+    fn from_bytes(bytes: &[u8]) -> VmdParsedCameraFrame {
         VmdParsedCameraFrame {
             frame: number_at(bytes, 0),
             distance: number_at(bytes, 4),
@@ -162,9 +216,13 @@ impl VmdParsedCameraFrame {
             )),
         }
     }
+
+    ghost sized = { camera_sized };
+
+    ghost size_bound = { leb-true 61 111 refl };
 }
 
-#[derive(Clone, Copy)]
+#[derive(Clone, Copy, Debug, PartialEq)]
 pub struct VmdParsedLightFrame {
     pub frame: u32,
     pub color_r: f32,
@@ -176,13 +234,21 @@ pub struct VmdParsedLightFrame {
 }
 
 impl VmdParsedLightFrame {
-    pub const SIZE: usize = 28;
-
     pub const FRAME_OFFSET: usize = 0;
+}
 
-    pub fn from_bytes(bytes: &[u8]) -> VmdParsedLightFrame
-        ensures { result ≡ light_floats (light.decode bytes.now) }
-    {
+impl VmdRecord for VmdParsedLightFrame {
+    const SIZE: usize = 28;
+
+    ghost SIZE = { 28 };
+
+    ghost Row = { Light };
+
+    ghost layout = { light };
+
+    ghost fields = { light_floats };
+
+    fn from_bytes(bytes: &[u8]) -> VmdParsedLightFrame {
         VmdParsedLightFrame {
             frame: number_at(bytes, 0),
             color_r: float_at(bytes, 4),
@@ -193,10 +259,14 @@ impl VmdParsedLightFrame {
             direction_z: float_at(bytes, 24),
         }
     }
+
+    ghost sized = { light_sized };
+
+    ghost size_bound = { leb-true 28 111 refl };
 }
 
 // A light by its exact bits: a float has one NaN, its bits have many.
-#[derive(Clone, Copy)]
+#[derive(Clone, Copy, Debug, PartialEq, Eq)]
 pub struct VmdParsedLightBits {
     pub frame: u32,
     pub color_r: u32,
@@ -207,12 +277,18 @@ pub struct VmdParsedLightBits {
     pub direction_z: u32,
 }
 
-impl VmdParsedLightBits {
-    pub const SIZE: usize = VmdParsedLightFrame::SIZE;
+impl VmdRecord for VmdParsedLightBits {
+    const SIZE: usize = VmdParsedLightFrame::SIZE;
 
-    pub fn from_bytes(bytes: &[u8]) -> VmdParsedLightBits
-        ensures { result ≡ light_bits (light.decode bytes.now) }
-    {
+    ghost SIZE = { 28 };
+
+    ghost Row = { Light };
+
+    ghost layout = { light };
+
+    ghost fields = { light_bits };
+
+    fn from_bytes(bytes: &[u8]) -> VmdParsedLightBits {
         VmdParsedLightBits {
             frame: number_at(bytes, 0),
             color_r: number_at(bytes, 4),
@@ -223,9 +299,13 @@ impl VmdParsedLightBits {
             direction_z: number_at(bytes, 24),
         }
     }
+
+    ghost sized = { light_sized };
+
+    ghost size_bound = { leb-true 28 111 refl };
 }
 
-#[derive(Clone, Copy)]
+#[derive(Clone, Copy, Debug, PartialEq, Eq)]
 pub struct VmdParsedSelfShadowFrame {
     pub frame: u32,
     pub mode: u8,
@@ -233,23 +313,35 @@ pub struct VmdParsedSelfShadowFrame {
 }
 
 impl VmdParsedSelfShadowFrame {
-    pub const SIZE: usize = 9;
-
     pub const FRAME_OFFSET: usize = 0;
+}
 
-    pub fn from_bytes(bytes: &[u8]) -> VmdParsedSelfShadowFrame
-        ensures { result ≡ self_shadow_fields (self_shadow.decode bytes.now) }
-    {
+impl VmdRecord for VmdParsedSelfShadowFrame {
+    const SIZE: usize = 9;
+
+    ghost SIZE = { 9 };
+
+    ghost Row = { SelfShadow };
+
+    ghost layout = { self_shadow };
+
+    ghost fields = { self_shadow_fields };
+
+    fn from_bytes(bytes: &[u8]) -> VmdParsedSelfShadowFrame {
         VmdParsedSelfShadowFrame {
             frame: number_at(bytes, 0),
             mode: byte_at(bytes, 4),
             distance: number_at(bytes, 5),
         }
     }
+
+    ghost sized = { self_shadow_sized };
+
+    ghost size_bound = { leb-true 9 111 refl };
 }
 
 // A property frame without its IK states, which stand after its SIZE bytes.
-#[derive(Clone, Copy)]
+#[derive(Clone, Copy, Debug, PartialEq, Eq)]
 pub struct VmdParsedPropertyFrame {
     pub frame: u32,
     pub visible: bool,
@@ -257,48 +349,72 @@ pub struct VmdParsedPropertyFrame {
 }
 
 impl VmdParsedPropertyFrame {
-    pub const SIZE: usize = 9;
-
     pub const VISIBLE_OFFSET: usize = 4;
 
     pub const IK_COUNT_OFFSET: usize = 5;
+}
 
-    pub fn from_bytes(bytes: &[u8]) -> VmdParsedPropertyFrame
-        ensures { result ≡ property_fields (property_at bytes.now 0) }
-    {
+impl VmdRecord for VmdParsedPropertyFrame {
+    const SIZE: usize = 9;
+
+    ghost SIZE = { 9 };
+
+    ghost Row = { PropertyHead };
+
+    ghost layout = { property_row };
+
+    ghost fields = { property_fields };
+
+    fn from_bytes(bytes: &[u8]) -> VmdParsedPropertyFrame {
         VmdParsedPropertyFrame {
             frame: number_at(bytes, 0),
             visible: vmd_bytes::flag_of(byte_at(bytes, VmdParsedPropertyFrame::VISIBLE_OFFSET)),
             ik_count: number_at(bytes, VmdParsedPropertyFrame::IK_COUNT_OFFSET),
         }
     }
+
+    ghost sized = { property_sized };
+
+    ghost size_bound = { leb-true 9 111 refl };
 }
 
-#[derive(Clone, Copy)]
+#[derive(Clone, Copy, Debug, PartialEq, Eq)]
 pub struct VmdParsedIkState {
     pub enabled: bool,
 }
 
 impl VmdParsedIkState {
-    pub const SIZE: usize = 21;
-
     pub const NAME_WIDTH: usize = 20;
 
     pub const ENABLED_OFFSET: usize = 20;
+}
 
-    pub fn from_bytes(bytes: &[u8]) -> VmdParsedIkState
-        ensures { result ≡ ik_fields (ik_state.decode bytes.now) }
-    {
+impl VmdRecord for VmdParsedIkState {
+    const SIZE: usize = 21;
+
+    ghost SIZE = { 21 };
+
+    ghost Row = { IkState };
+
+    ghost layout = { ik_state };
+
+    ghost fields = { ik_fields };
+
+    fn from_bytes(bytes: &[u8]) -> VmdParsedIkState {
         VmdParsedIkState {
             enabled: vmd_bytes::flag_of(byte_at(bytes, VmdParsedIkState::ENABLED_OFFSET)),
         }
     }
+
+    ghost sized = { ik_state_sized };
+
+    ghost size_bound = { leb-true 21 111 refl };
 }
 
 // ---- kinds
 
 // The kinds of records that have one size; property frames, with their IK states, have none.
-#[derive(Clone, Copy)]
+#[derive(Clone, Copy, Debug, PartialEq, Eq)]
 pub enum VmdKind {
     Bone,
     Morph,

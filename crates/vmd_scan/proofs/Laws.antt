@@ -9,13 +9,14 @@ use native.Mathlib.Omega.{arith}
 use borrow.Author.Tests.{le-leb, lt-leb}
 use lib.Dec.{leb}
 use lib.ListN.{length, drop}
+use Rattle.std.specs.Prelude.{Option, Some, None}
 use Rattle.vmd_format.specs.Bytes.{u32}
 use Rattle.vmd_format.specs.Refusal.{file_ends_early}
 use Rattle.vmd_format.specs.Answer.{Answer, declined, given, and_then, map_answer}
 use Rattle.vmd_format.specs.Read.{Oversized, refuse, Manner}
 use Rattle.vmd_laws.specs.Places.{Span, extent_in, no_span, records_span, count_span, span, optional_if, optional_span, walk, scan_sections}
 use Rattle.vmd_laws.specs.PlacesLaws.{Holds, Within, optional_within, walk_next}
-use Rattle.vmd_scan.specs.Stages.{Numbered, number_if, read_number, Optional, nothing, there, optional_number_if, optional_number, counted_if, counted_span, Back, scan_front, scan_back, scan_end}
+use Rattle.vmd_scan.specs.Stages.{Numbered, number_if, read_number, optional_number_if, optional_number, counted_if, counted_span, Back, scan_front, scan_back, scan_end}
 
 -- records of at most 111 bytes, as many as a count says, fit a size
 pub size_fits : (n size : ℕ) → n < 4294967296 → size ≤ 111 → n * size < 18446744073709551616
@@ -32,18 +33,18 @@ module _ (s : List ℕ) (at : ℕ) where
   unfolding read_number number_if
   number_whole n h e = rw (le-leb (at + 4) (length s) h, ← e)
 
-  pub number_missing : length s ≤ at → optional_number s at ≡ given nothing
+  pub number_missing : length s ≤ at → optional_number s at ≡ given None
   unfolding optional_number optional_number_if
   number_missing h = rw (le-leb (length s) at h)
 
-  pub number_there : at < length s → optional_number s at ≡ map_answer there (read_number s at)
+  pub number_there : at < length s → optional_number s at ≡ map_answer Some (read_number s at)
   unfolding optional_number optional_number_if
   number_there h = rw (lt-leb (length s) at h)
 
 -- the section after an optional count
-unfoldable pub after_count : Oversized → ℕ → List ℕ → Optional → Answer Span
-after_count o size s nothing = given (no_span s)
-after_count o size s (there x) = counted_span o size s x
+unfoldable pub after_count : Oversized → ℕ → List ℕ → Option Numbered → Answer Span
+after_count o size s None = given (no_span s)
+after_count o size s (Some x) = counted_span o size s x
 
 module _ (o : Oversized) (size : ℕ) (s : List ℕ) (at : ℕ) where
   pub span_steps : span o size s at ≡ and_then (read_number s at) (counted_span o size s)
@@ -62,7 +63,7 @@ module _ (o : Oversized) (size : ℕ) (s : List ℕ) (at : ℕ) where
   unfolding optional_span optional_if optional_number optional_number_if and_then map_answer after_count
   optional_steps = go (leb (length s) at)
     where
-      two : (x : Answer Numbered) → and_then x (counted_span o size s) ≡ and_then (map_answer there x) (after_count o size s)
+      two : (x : Answer Numbered) → and_then x (counted_span o size s) ≡ and_then (map_answer Some x) (after_count o size s)
       two (declined k) = refl
       two (given x) = refl
 

@@ -1,6 +1,6 @@
 -- The steps in which a file is scanned: a number, a section's records, three sections, three more, and the end. proofs/Laws
 -- shows that together they are the format's scan. Definitions only.
-use Rattle.std.specs.Prelude.{ℕ, ◌+◌, ◌*◌, ◌-◌, Bool, true, false, List, length, drop, leb}
+use Rattle.std.specs.Prelude.{ℕ, ◌+◌, ◌*◌, ◌-◌, Bool, true, false, List, length, drop, leb, Option, Some, None}
 use Rattle.vmd_format.specs.Bytes.{u32}
 use Rattle.vmd_format.specs.Refusal.{file_ends_early}
 use Rattle.vmd_format.specs.Answer.{Answer, declined, given, and_then, map_answer}
@@ -24,16 +24,12 @@ unfoldable pub read_number : List ℕ → ℕ → Answer Numbered
 read_number s at = number_if (leb (at + 4) (length s)) s at
 
 -- nothing left, or a number
-pub data Optional : Type 0 where
-  nothing : Optional
-  there : Numbered → Optional
-
-unfoldable pub optional_number_if : Bool → List ℕ → ℕ → Answer Optional
-optional_number_if true s at = given nothing
-optional_number_if false s at = map_answer there (read_number s at)
+unfoldable pub optional_number_if : Bool → List ℕ → ℕ → Answer (Option Numbered)
+optional_number_if true s at = given None
+optional_number_if false s at = map_answer Some (read_number s at)
 
 -- the same where the file may have ended before the number
-unfoldable pub optional_number : List ℕ → ℕ → Answer Optional
+unfoldable pub optional_number : List ℕ → ℕ → Answer (Option Numbered)
 optional_number s at = optional_number_if (leb (length s) at) s at
 
 -- ---- a section's records, after their count

@@ -1,12 +1,10 @@
 -- Season figures by places: the steps of the code are the definition. Assumes nothing.
-use Prim.Native.Nat.{ℕ, ◌+◌, ◌-◌, ◌≤◌}
+use Prim.Native.Nat.{ℕ, ◌+◌}
 use mathlib.Core.Path.{◌≡◌, refl, sym, ap, ◌∙◌}
 use mathlib.Core.Bool.{Bool, true, false}
 use mathlib.Core.List.{List, map}
-use native.Mathlib.Omega.{arith}
-use borrow.Author.Tests.{leb-true, leb-false, le-leb, lt-leb}
 use lib.ListN.{length}
-use lib.Dec.{leb, eqb}
+use lib.Dec.{eqb}
 use Rattle.vmd_format.specs.Refusal.{Refusal}
 use Rattle.vmd_format.specs.Answer.{declined, given, map_answer}
 use Rattle.vmd_format.specs.Read.{Manner}
@@ -18,29 +16,36 @@ use Rattle.vmd_laws.specs.ScanLaws.{file_in}
 use Rattle.vmd_laws.specs.ExportLaws.{take_in, take_by_places, Scanned, scan_counts}
 use Rattle.vmd_keys.specs.Names.{names_in, bone_names_of, morph_names_of, registration_name, distinct}
 use Rattle.vmd_keys.specs.NameLaws.{bone_names, morph_names}
-use Rattle.vmd_season.specs.Season.{SectionFigures, Season, TakeFigures, figures_of, records_of, largest_figure, in_64_bits, take_fits, with_count, with_take, with_refused, taken_if, with_answer, with_file}
+use Rattle.vmd_season.specs.Fitting.{AllFit, fits_says, says_fits}
+use Rattle.vmd_season.specs.Season.{SectionFigures, Season, TakeFigures, figures_of, records_of, take_fits, with_count, with_take, with_refused, taken_if, with_answer, with_file}
 
 -- ---- whether a take fits
 
--- what is left of 64 bits
-pub left_of_64 : (a n : ℕ) → a ≤ 18446744073709551615 → leb n (18446744073709551615 - a) ≡ in_64_bits (a + n)
-unfolding largest_figure
-left_of_64 a n h = go (leb n (18446744073709551615 - a)) refl
-  where
-    go : (b : Bool) → leb n (18446744073709551615 - a) ≡ b → b ≡ leb (a + n) 18446744073709551615
-    go true e = let l = leb-true n (18446744073709551615 - a) e in sym (le-leb (a + n) 18446744073709551615 (omega arith))
-    go false e = let l = leb-false n (18446744073709551615 - a) e in sym (lt-leb (a + n) 18446744073709551615 (omega arith))
+module _ (z : Season) (f : TakeFigures) where
+  pub taken_whole : AllFit z f → true ≡ take_fits z f
+  taken_whole h = sym (says_fits z f h)
+
+  -- a figure that has no room
+  pub not_taken : ¬ (AllFit z f) → false ≡ take_fits z f
+  not_taken h = go (take_fits z f) refl
+    where
+      go : (b : Bool) → take_fits z f ≡ b → false ≡ b
+      go true e = absurd (h (fits_says z f e))
+      go false e = refl
 
 -- ---- one take more
 
-pub counted : (z : Season) (f : TakeFigures) {b m c l s p : SectionFigures} {n : ℕ}
+pub counted : (z : Season) (f : TakeFigures) {b m c l s p : SectionFigures} {n bn mn a : ℕ}
     → b ≡ with_count (eqb z.accepted 0) z.bones f.bones
     → m ≡ with_count (eqb z.accepted 0) z.morphs f.morphs
     → c ≡ with_count (eqb z.accepted 0) z.cameras f.cameras
     → l ≡ with_count (eqb z.accepted 0) z.lights f.lights
     → s ≡ with_count (eqb z.accepted 0) z.self_shadows f.self_shadows
     → p ≡ with_count (eqb z.accepted 0) z.properties f.properties
-    → n ≡ records_of f
+    → n ≡ z.records + records_of f
+    → bn ≡ z.bone_names + f.bone_names
+    → mn ≡ z.morph_names + f.morph_names
+    → a ≡ z.accepted + 1
     → record {
       bones = b;
       morphs = m;
@@ -48,24 +53,24 @@ pub counted : (z : Season) (f : TakeFigures) {b m c l s p : SectionFigures} {n :
       lights = l;
       self_shadows = s;
       properties = p;
-      records = z.records + n;
-      bone_names = z.bone_names + f.bone_names;
-      morph_names = z.morph_names + f.morph_names;
-      accepted = z.accepted + 1;
+      records = n;
+      bone_names = bn;
+      morph_names = mn;
+      accepted = a;
       refused = z.refused;
     } ≡ with_take z f
 unfolding with_take
-counted z f b m c l s p n = λ i. record {
+counted z f b m c l s p n bn mn a = λ i. record {
   bones = b i;
   morphs = m i;
   cameras = c i;
   lights = l i;
   self_shadows = s i;
   properties = p i;
-  records = z.records + n i;
-  bone_names = z.bone_names + f.bone_names;
-  morph_names = z.morph_names + f.morph_names;
-  accepted = z.accepted + 1;
+  records = n i;
+  bone_names = bn i;
+  morph_names = mn i;
+  accepted = a i;
   refused = z.refused;
 }
 

@@ -25,12 +25,12 @@ season_is z = record {
 
 abbrev pub take_is : VmdTakeFigures → TakeFigures
 take_is f = record {
-  bones = f.bones;
-  morphs = f.morphs;
-  cameras = f.cameras;
-  lights = f.lights;
-  self_shadows = f.self_shadows;
-  properties = f.properties;
+  bones = f.counts.bones;
+  morphs = f.counts.morphs;
+  cameras = f.counts.cameras;
+  lights = f.counts.lights;
+  self_shadows = f.counts.self_shadows;
+  properties = f.counts.properties;
   bone_names = f.bone_names;
   morph_names = f.morph_names;
 }

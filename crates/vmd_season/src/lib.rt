@@ -2,28 +2,28 @@
 // calls of VmdSeason ask nothing of their caller; any numbers in a season mean something.
 #![tactic(auto)]
 
-ghost use Rattle.std.specs.Prelude.{◌≡◌, true, ◌&&◌, map, ◌+◌, ◌*◌, ◌≤◌, min, length};
+ghost use Rattle.std.specs.Prelude.{◌≡◌, map, ◌+◌, ◌*◌, ◌≤◌, length, is_some, IfSome};
 ghost use Rattle.vmd_format.specs.Read.{lenient};
-ghost use Rattle.vmd_laws.specs.ExportLaws.{take_in, Scanned};
+ghost use Rattle.vmd_laws.specs.ExportLaws.{take_in};
 ghost use Rattle.vmd_keys.specs.Names.{names_in, registration_name, distinct};
 ghost use Rattle.vmd_scan.specs.Meaning.{scan_is};
-ghost use Rattle.vmd_season.specs.Season.{no_takes, figures_of, records_of, largest_figure, in_64_bits, totals_fit, take_fits, with_count, with_take, with_refused, taken_if, with_file, mean};
+ghost use Rattle.vmd_season.specs.Season.{no_takes, figures_of, in_64_bits, take_fits, with_count, with_take, with_refused, taken_if, with_file, mean};
 ghost use Rattle.vmd_season.specs.Meaning.{section_is, season_is, take_is, mean_is};
 
-use vmd_base::{VmdManner, VmdSection};
+use vmd_base::{VmdCounts, VmdManner, VmdSection};
 use vmd_keys::VmdCut;
-use vmd_records::{VmdParsedBoneFrame, VmdParsedMorphFrame};
-use vmd_scan::{ScanAnswer, VmdSections};
+use vmd_records::{VmdParsedBoneFrame, VmdParsedMorphFrame, VmdRecord};
+use vmd_scan::scanned::VmdScanned;
 
 // The records of a section over all takes, and the smallest and largest number of them in one.
-#[derive(Clone, Copy)]
+#[derive(Clone, Copy, Debug, PartialEq, Eq)]
 pub struct VmdSectionFigures {
     pub total: u64,
     pub smallest: u32,
     pub largest: u32,
 }
 
-#[derive(Clone, Copy)]
+#[derive(Clone, Copy, Debug, PartialEq, Eq)]
 pub struct VmdSeason {
     pub bones: VmdSectionFigures,
     pub morphs: VmdSectionFigures,
@@ -42,26 +42,19 @@ pub struct VmdSeason {
 }
 
 // Records per accepted take.
-#[derive(Clone, Copy)]
+#[derive(Clone, Copy, Debug, PartialEq, Eq)]
 pub struct VmdMean {
     pub quotient: u64,
     pub remainder: u64,
 }
 
 // What a take adds. Internal: no call takes or gives one.
-#[derive(Clone, Copy)]
+#[derive(Clone, Copy, Debug, PartialEq, Eq)]
 pub struct VmdTakeFigures {
-    pub bones: u32,
-    pub morphs: u32,
-    pub cameras: u32,
-    pub lights: u32,
-    pub self_shadows: u32,
-    pub properties: u32,
+    pub counts: VmdCounts,
     pub bone_names: u64,
     pub morph_names: u64,
 }
-
-const LARGEST_FIGURE: u64 = 0xffff_ffff_ffff_ffff;
 
 // ---- what a take adds
 
@@ -73,145 +66,101 @@ fn count_tracks(file: &[u8], x: VmdSection, size: usize) -> u64
     vmd_count::count_names(file, x.place, size, x.count as usize, VmdCut::LineFeed).names
 }
 
-fn figures_of(file: &[u8], a: VmdSections) -> VmdTakeFigures
-    requires { Scanned file.now (scan_is a) }
-    ensures { take_is result ≡ figures_of (take_in file.now (scan_is a)) }
+fn figures_of(take: &VmdScanned) -> VmdTakeFigures
+    ensures { take_is result ≡ figures_of (take_in take.now.file.now (scan_is take.now.sections)) }
 {
-    let bone_names = count_tracks(file, a.bones, VmdParsedBoneFrame::SIZE);
-    let morph_names = count_tracks(file, a.morphs, VmdParsedMorphFrame::SIZE);
+    let a = take.sections;
+    let bone_names = count_tracks(take.file, a.bones, VmdParsedBoneFrame::SIZE);
+    let morph_names = count_tracks(take.file, a.morphs, VmdParsedMorphFrame::SIZE);
     VmdTakeFigures {
-        bones: a.bones.count,
-        morphs: a.morphs.count,
-        cameras: a.cameras.count,
-        lights: a.lights.count,
-        self_shadows: a.self_shadows.count,
-        properties: a.properties.count,
+        counts: a.counts(),
         bone_names,
         morph_names,
     }
 }
 
-fn records_of(f: VmdTakeFigures) -> u64
-    ensures { result ≡ records_of (take_is f) }
-{
-    vmd_frames::record_count(
-        f.bones,
-        f.morphs,
-        f.cameras,
-        f.lights,
-        f.self_shadows,
-        f.properties,
-    )
-}
-
-// ---- whether it fits
-
-// Whether a figure has room for so many more, as those before had.
-fn also_fits(so_far: bool, figure: u64, more: u64) -> bool
-    ensures { result ≡ (so_far && in_64_bits (figure + more)) }
-{
-    so_far && more <= LARGEST_FIGURE - figure
-}
-
-fn totals_fit(z: VmdSeason, f: VmdTakeFigures) -> bool
-    ensures { result ≡ totals_fit (season_is z) (take_is f) }
-{
-    let bones = also_fits(true, z.bones.total, f.bones as u64);
-    let morphs = also_fits(bones, z.morphs.total, f.morphs as u64);
-    let cameras = also_fits(morphs, z.cameras.total, f.cameras as u64);
-    let lights = also_fits(cameras, z.lights.total, f.lights as u64);
-    let self_shadows = also_fits(lights, z.self_shadows.total, f.self_shadows as u64);
-    also_fits(self_shadows, z.properties.total, f.properties as u64)
-}
-
-fn take_fits(z: VmdSeason, f: VmdTakeFigures) -> bool
-    ensures { result ≡ take_fits (season_is z) (take_is f) }
-{
-    let totals = totals_fit(z, f);
-    let records = also_fits(totals, z.records, records_of(f));
-    let bone_names = also_fits(records, z.bone_names, f.bone_names);
-    let morph_names = also_fits(bone_names, z.morph_names, f.morph_names);
-    also_fits(morph_names, z.accepted, 1)
-}
-
 // ---- one take more
 
-fn with_count(first: bool, x: VmdSectionFigures, n: u32) -> VmdSectionFigures
-    requires { x.total + n ≤ largest_figure }
-    ensures { section_is result ≡ with_count first (section_is x) n }
-{
-    let total = x.total + n as u64;
-    if first {
-        return VmdSectionFigures {
+impl VmdSectionFigures {
+    // The figures with a take of n records more, where the total has room.
+    fn with_count(self, first: bool, n: u32) -> Option<VmdSectionFigures>
+        ensures fits { is_some result ≡ in_64_bits (self.total + n) }
+        ensures counted { IfSome result (λ x. section_is x ≡ with_count first (section_is self) n) }
+    {
+        let total = self.total.checked_add(n as u64)?;
+        if first {
+            return Some(VmdSectionFigures {
+                total,
+                smallest: n,
+                largest: n,
+            });
+        }
+        Some(VmdSectionFigures {
             total,
-            smallest: n,
-            largest: n,
-        };
-    }
-    VmdSectionFigures {
-        total,
-        smallest: vmd_bytes::smaller(x.smallest, n),
-        largest: vmd_bytes::larger(x.largest, n),
+            smallest: self.smallest.min(n),
+            largest: self.largest.max(n),
+        })
     }
 }
 
-fn with_take(z: VmdSeason, f: VmdTakeFigures) -> VmdSeason
-    requires { take_fits (season_is z) (take_is f) ≡ true }
-    ensures { season_is result ≡ with_take (season_is z) (take_is f) }
-{
-    let first = z.accepted == 0;
-    let bones = with_count(first, z.bones, f.bones);
-    let morphs = with_count(first, z.morphs, f.morphs);
-    let cameras = with_count(first, z.cameras, f.cameras);
-    let lights = with_count(first, z.lights, f.lights);
-    let self_shadows = with_count(first, z.self_shadows, f.self_shadows);
-    let properties = with_count(first, z.properties, f.properties);
-    VmdSeason {
-        bones,
-        morphs,
-        cameras,
-        lights,
-        self_shadows,
-        properties,
-        records: z.records + records_of(f),
-        bone_names: z.bone_names + f.bone_names,
-        morph_names: z.morph_names + f.morph_names,
-        accepted: z.accepted + 1,
-        refused: z.refused,
+impl VmdSeason {
+    // The season with an accepted take more, where every figure has room.
+    fn with_take(self, take: VmdTakeFigures) -> Option<VmdSeason>
+        ensures fits { is_some result ≡ take_fits (season_is self) (take_is take) }
+        ensures taken { IfSome result (λ z. season_is z ≡ with_take (season_is self) (take_is take)) }
+    {
+        let first = self.accepted == 0;
+        let bones = self.bones.with_count(first, take.counts.bones)?;
+        let morphs = self.morphs.with_count(first, take.counts.morphs)?;
+        let cameras = self.cameras.with_count(first, take.counts.cameras)?;
+        let lights = self.lights.with_count(first, take.counts.lights)?;
+        let self_shadows = self
+            .self_shadows
+            .with_count(first, take.counts.self_shadows)?;
+        let properties = self.properties.with_count(first, take.counts.properties)?;
+        let records = self.records.checked_add(take.counts.records())?;
+        let bone_names = self.bone_names.checked_add(take.bone_names)?;
+        let morph_names = self.morph_names.checked_add(take.morph_names)?;
+        let accepted = self.accepted.checked_add(1)?;
+        Some(VmdSeason {
+            bones,
+            morphs,
+            cameras,
+            lights,
+            self_shadows,
+            properties,
+            records,
+            bone_names,
+            morph_names,
+            accepted,
+            refused: self.refused,
+        })
     }
-}
 
-// One more, where there is one.
-fn next_refused(n: u64) -> u64
-    ensures { result ≡ min (n + 1) largest_figure }
-{
-    if n == LARGEST_FIGURE {
-        return n;
+    // The season with a refused take more: the number stops at its largest value.
+    fn with_refused(self) -> VmdSeason
+        ensures { season_is result ≡ with_refused (season_is self) }
+    {
+        VmdSeason {
+            refused: self.refused.saturating_add(1),
+            ..self
+        }
     }
-    n + 1
-}
 
-fn with_refused(z: VmdSeason) -> VmdSeason
-    ensures { season_is result ≡ with_refused (season_is z) }
-{
-    let mut next = z;
-    next.refused = next_refused(z.refused);
-    next
-}
-
-fn taken_if_it_fits(z: VmdSeason, f: VmdTakeFigures) -> VmdSeason
-    ensures { season_is result ≡ taken_if (take_fits (season_is z) (take_is f)) (season_is z) (take_is f) }
-{
-    if take_fits(z, f) {
-        return with_take(z, f);
+    fn taken_if_it_fits(self, take: VmdTakeFigures) -> VmdSeason
+        ensures { season_is result ≡ taken_if (take_fits (season_is self) (take_is take)) (season_is self) (take_is take) }
+    {
+        match self.with_take(take) {
+            Some(next) => next,
+            None => self.with_refused(),
+        }
     }
-    with_refused(z)
 }
 
 // ---- the calls
 
 impl VmdSeason {
-    // The figures of no takes.
+    // The figures of no takes. Zeros and no Option: the definition `no_takes` has them, and the slots for C.
     pub fn none() -> VmdSeason
         ensures { season_is result ≡ no_takes }
     {
@@ -240,12 +189,12 @@ impl VmdSeason {
         ensures { season_is result ≡ with_file lenient (season_is self) file.now }
     {
         match vmd_scan::scan_file(file, VmdManner::Lenient) {
-            ScanAnswer::Refused(k) => with_refused(self),
-            ScanAnswer::Scanned(a) => taken_if_it_fits(self, figures_of(file, a)),
+            Ok(take) => self.taken_if_it_fits(figures_of(&take)),
+            Err(_) => self.with_refused(),
         }
     }
 
-    // The mean of all six sections' records per accepted take.
+    // The mean of all six sections' records per accepted take. Zeros where there is none, as the definition `mean` has it.
     pub fn mean(self) -> VmdMean
         ensures { mean_is result ≡ mean (season_is self) }
     {

@@ -4,6 +4,7 @@ use mathlib.Core.Path.{◌≡◌, refl, ap, sym, ◌∙◌}
 use mathlib.Core.List.{List, [], ◌∷◌}
 use native.Mathlib.Omega.{arith}
 use lib.ListN.{length}
+use Rattle.std.specs.Prelude.{Result, Ok, Err}
 use Rattle.vmd_format.specs.Refusal.{Refusal, number}
 use Rattle.vmd_format.specs.Answer.{Answer, declined, given, map_answer}
 use Rattle.vmd_format.specs.Layout.{Layout}
@@ -11,6 +12,8 @@ use Rattle.vmd_format.specs.Opening.{Extent, Scan}
 use Rattle.vmd_format.specs.Fetch.{record_place, fetch, or_empty, fetch_property, fetch_ik_state}
 use Rattle.vmd_format.specs.Join.{joined_model}
 use Rattle.vmd_base.specs.declared.VmdPart.{VmdPart}
+use Rattle.vmd_base.specs.declared.VmdRefusal.{VmdRefusal}
+use Rattle.vmd_base.specs.Meaning.{answer, answer_of}
 use Rattle.vmd_places.specs.Meaning.{ik_place}
 use Rattle.vmd_places.specs.Parts.{part_in}
 use Rattle.vmd_slots.specs.Meaning.{status, slot_after, joined_words}
@@ -104,6 +107,27 @@ module _ {A B : Type 0} (f : A → B) {x y : Answer A} {a : Answer B} (same : x 
   pub found : {b : B} → a ≡ given b → {C : Type 0} (h : A → C) (old : C) {l : C} → ((v : A) → b ≡ f v → l ≡ h v)
       → (0 ≡ status y) × (l ≡ slot_after old h y)
   found m h old s = let r = arrived m in (status_given r.is, slot_filled h old r s)
+
+-- the status and the slot of a call that was reported: its answer has what f makes of a record, and held of that are the record's
+-- words
+module _ {A B C : Type 0} (f : A → B) (held : B → C) (words : A → C) (h : (v : A) → held (f v) ≡ words v) {a : Answer B} {x y : Answer A} (e : a ≡ map_answer f x) (same : x ≡ y) where
+  pub reported : {n : ℕ} (old : C) {l : C} → n ≡ status a → l ≡ slot_after old held a → (n ≡ status y) × (l ≡ slot_after old words y)
+  unfolding map_answer status slot_after
+  reported {n} old {l} p q = rw (← same) (go x e)
+    where
+      go : (x : Answer A) → a ≡ map_answer f x → (n ≡ status x) × (l ≡ slot_after old words x)
+      go (declined k) d = (p ∙ ap status d, q ∙ ap (slot_after old held) d)
+      go (given v) d = (p ∙ ap status d, q ∙ ap (slot_after old held) d ∙ h v)
+
+-- the same of an answer that means another
+module _ {A B C : Type 0} (f : A → B) (words : B → C) (r : Result A VmdRefusal) {y : Answer B} (e : answer f r ≡ y) where
+  pub meant : {n : ℕ} (old : C) {l : C} → n ≡ status (answer_of r) → l ≡ slot_after old (λ a. words (f a)) (answer_of r) → (n ≡ status y) × (l ≡ slot_after old words y)
+  unfolding status slot_after
+  meant {n} old {l} p q = rw (← e) (go r p q)
+    where
+      go : (r : Result A VmdRefusal) → n ≡ status (answer_of r) → l ≡ slot_after old (λ a. words (f a)) (answer_of r) → (n ≡ status (answer f r)) × (l ≡ slot_after old words (answer f r))
+      go (Ok a) p q = (p, q)
+      go (Err k) p q = (p, q)
 
 -- the model name of a join: j is the joined name that the callee gave, f the first file's
 module _ (m n : List ℕ) {j : List ℕ} (e : j ≡ joined_model m n) where

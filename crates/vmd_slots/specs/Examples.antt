@@ -1,5 +1,5 @@
 -- What the slots hold, with other values in every field and place, so that one out of its place shows.
-use Rattle.std.specs.Prelude.{ℕ, ◌≡◌, refl, true, false, List, [], ◌∷◌, ◌++◌, replicate, pos}
+use Rattle.std.specs.Prelude.{ℕ, ◌≡◌, refl, true, false, List, [], ◌∷◌, ◌++◌, replicate, pos, Ok, Err}
 use Rattle.std.specs.Float.{nan, fin}
 use Rattle.std.specs.Float.Ieee.{of_bits}
 use Rattle.vmd_format.specs.Refusal.{file_ends_early, outside, output_too_short, parts_do_not_fit, scratch_too_short}
@@ -11,11 +11,9 @@ use Rattle.vmd_places.specs.Meaning.{ik_place}
 use Rattle.vmd_places.specs.Parts.{file_part, part_in}
 use Rattle.vmd_slots.specs.Meaning.{status, slot_after, counts_of, places_of, totals_of, extent_at, scan_at, bone_words, morph_words, camera_words, light_values, light_words, self_shadow_words, property_words, part_words, joined_words, size_words, count_words, file_of, season_counts, season_figures, section_at, season_at, mean_words}
 use Rattle.vmd_base.specs.declared.VmdRefusal.TheVariants.{PartsDoNotFit, ScratchTooShort}
-use Rattle.vmd_tidy.specs.Meaning.{tidy_answer}
-use Rattle.vmd_tidy.specs.declared.VmdTidyAnswer.TheVariants.{Tidied}
-use Rattle.vmd_tidy.specs.declared.VmdTidyAnswer.TheVariants as tidied
-use Rattle.vmd_split.specs.Meaning.{split_is}
-use Rattle.vmd_split.specs.declared.VmdSplit.TheVariants.{Refused, Tables}
+use Rattle.vmd_base.specs.Meaning.{answer}
+use Rattle.vmd_tidy.specs.Meaning.{report_is}
+use Rattle.vmd_split.specs.Meaning.{sizes_are}
 use Rattle.vmd_season.specs.Season.{Season}
 use Rattle.vmd_season.specs.Meaning.{season_is, mean_is}
 
@@ -111,9 +109,9 @@ parts = (refl, refl, refl, refl, refl, refl, refl, refl, refl, refl, refl)
 -- ---- the sizes of two name tables
 
 pub table_sizes :
-    (split_is (Tables (record { bone_names = 1; bone_name_bytes = 2; morph_names = 3; morph_name_bytes = 4 }))
+    (answer sizes_are (Ok (record { bone_names = 1; bone_name_bytes = 2; morph_names = 3; morph_name_bytes = 4 }))
     ≡ given (record { bone_names = 1; bone_name_bytes = 2; morph_names = 3; morph_name_bytes = 4 }))
-    × (split_is (Refused PartsDoNotFit) ≡ declined parts_do_not_fit)
+    × (answer sizes_are (Err PartsDoNotFit) ≡ declined parts_do_not_fit)
     × (size_words (record { bone_names = 1; bone_name_bytes = 2; morph_names = 3; morph_name_bytes = 4 }) ≡ 1 ∷ 2 ∷ 3 ∷ 4 ∷ [])
 unfolding size_words
 table_sizes = (refl, refl, refl)
@@ -121,7 +119,7 @@ table_sizes = (refl, refl, refl)
 -- ---- a tidied take
 
 pub tidied_numbers :
-    (tidy_answer (Tidied (record {
+    (answer report_is (Ok (record {
       bytes = 1;
       kept = record { bones = 2; morphs = 3; cameras = 4; lights = 5; self_shadows = 6; properties = 7 };
       dropped = record { bones = 8; morphs = 9; cameras = 10; lights = 11; self_shadows = 12; properties = 13 };
@@ -131,7 +129,7 @@ pub tidied_numbers :
       kept = record { bones = 2; morphs = 3; cameras = 4; lights = 5; self_shadows = 6; properties = 7 };
       dropped = record { bones = 8; morphs = 9; cameras = 10; lights = 11; self_shadows = 12; properties = 13 };
     }))
-    × (tidy_answer (tidied.Refused ScratchTooShort) ≡ declined scratch_too_short)
+    × (answer report_is (Err ScratchTooShort) ≡ declined scratch_too_short)
     × (count_words (record { bones = 2; morphs = 3; cameras = 4; lights = 5; self_shadows = 6; properties = 7 }) ≡ 2 ∷ 3 ∷ 4 ∷ 5 ∷ 6 ∷ 7 ∷ [])
 unfolding count_words
 tidied_numbers = (refl, refl, refl)

@@ -10,6 +10,12 @@ use Rattle.vmd_format.specs.Records.{Bone, Morph, Camera, Light, SelfShadow}
 use Rattle.vmd_format.specs.Opening.{Extent, Scan, Opening}
 use Rattle.vmd_format.specs.Fetch.{PropertyHead}
 use Rattle.vmd_base.specs.declared.VmdPart.{VmdPart}
+use Rattle.vmd_records.specs.declared.VmdParsedBoneFrame.{VmdParsedBoneFrame}
+use Rattle.vmd_records.specs.declared.VmdParsedMorphFrame.{VmdParsedMorphFrame}
+use Rattle.vmd_records.specs.declared.VmdParsedCameraFrame.{VmdParsedCameraFrame}
+use Rattle.vmd_records.specs.declared.VmdParsedLightBits.{VmdParsedLightBits}
+use Rattle.vmd_records.specs.declared.VmdParsedSelfShadowFrame.{VmdParsedSelfShadowFrame}
+use Rattle.vmd_records.specs.declared.VmdParsedPropertyFrame.{VmdParsedPropertyFrame}
 use Rattle.vmd_tidy.specs.Tidied.{Counts}
 use Rattle.vmd_take_parts.specs.Split.{TableSizes}
 use Rattle.vmd_form.specs.Canonical.{Change, nowhere, at_place}
@@ -82,6 +88,28 @@ self_shadow_words s = s.frame ∷ s.mode ∷ s.distance ∷ []
 
 unfoldable pub property_words : PropertyHead → List ℕ
 property_words p = p.frame ∷ flag_byte p.visible ∷ p.ik_count ∷ []
+
+-- the same of what the code has of a record
+abbrev pub bone_slot : VmdParsedBoneFrame → List ℕ
+bone_slot x =
+    x.frame ∷ x.translation_x ∷ x.translation_y ∷ x.translation_z ∷ x.rotation_x ∷ x.rotation_y ∷ x.rotation_z ∷ x.rotation_w ∷ []
+
+abbrev pub morph_slot : VmdParsedMorphFrame → List ℕ
+morph_slot x = x.frame ∷ x.weight ∷ []
+
+abbrev pub camera_slot : VmdParsedCameraFrame → List ℕ
+camera_slot x =
+    x.frame ∷ x.distance ∷ x.position_x ∷ x.position_y ∷ x.position_z ∷ x.rotation_x ∷ x.rotation_y ∷ x.rotation_z ∷ x.fov
+    ∷ flag_byte x.perspective ∷ []
+
+abbrev pub light_slot : VmdParsedLightBits → List ℕ
+light_slot x = x.frame ∷ x.color_r ∷ x.color_g ∷ x.color_b ∷ x.direction_x ∷ x.direction_y ∷ x.direction_z ∷ []
+
+abbrev pub self_shadow_slot : VmdParsedSelfShadowFrame → List ℕ
+self_shadow_slot x = x.frame ∷ x.mode ∷ x.distance ∷ []
+
+abbrev pub property_slot : VmdParsedPropertyFrame → List ℕ
+property_slot x = x.frame ∷ flag_byte x.visible ∷ x.ik_count ∷ []
 
 -- ---- parts of a file
 

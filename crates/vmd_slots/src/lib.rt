@@ -4,27 +4,24 @@
 
 ghost use Rattle.std.specs.Prelude.{◌≡◌, [], ◌∷◌};
 ghost use Rattle.vmd_format.specs.Bytes.{flag_byte};
+ghost use Rattle.vmd_base.specs.Meaning.{answer, answer_of};
 ghost use Rattle.vmd_reader.specs.Meaning.{opening_is};
-ghost use Rattle.vmd_output.specs.Meaning.{written_answer};
-ghost use Rattle.vmd_slots.specs.Meaning.{status, slot_after, scan_at, part_words, size_words, count_words, season_counts, season_figures, season_at};
-ghost use Rattle.vmd_split.specs.Meaning.{split_is};
-ghost use Rattle.vmd_tidy.specs.Meaning.{tidy_answer};
-ghost use Rattle.vmd_season.specs.Meaning.{season_is};
+ghost use Rattle.vmd_split.specs.Meaning.{sizes_are};
+ghost use Rattle.vmd_tidy.specs.Meaning.{counts_are, report_is};
+ghost use Rattle.vmd_season.specs.Meaning.{season_is, mean_is};
+ghost use Rattle.vmd_canonical.specs.Meaning.{change_is};
+ghost use Rattle.vmd_slots.specs.Meaning.{status, slot_after, scan_at, bone_slot, morph_slot, camera_slot, light_slot, self_shadow_slot, property_slot, part_words, size_words, count_words, change_words, season_counts, season_figures, season_at, mean_words};
 
-use vmd_base::{VmdPart, VmdSection};
-use vmd_output::VmdWritten;
+use vmd_base::{VmdCounts, VmdPart, VmdRefusal, VmdSection};
 use vmd_reader::VmdOpening;
-use vmd_records::VmdParsedPropertyFrame;
+use vmd_records::{
+    VmdParsedBoneFrame, VmdParsedCameraFrame, VmdParsedIkState, VmdParsedLightBits,
+    VmdParsedMorphFrame, VmdParsedPropertyFrame, VmdParsedSelfShadowFrame,
+};
 use vmd_scan::VmdSections;
-use vmd_season::{VmdSeason, VmdSectionFigures};
-use vmd_split::VmdSplit;
-use vmd_tidy::VmdTidyAnswer;
-
-pub fn wide(b: u8) -> u32
-    ensures { result ≡ b }
-{
-    b as u32
-}
+use vmd_season::{VmdMean, VmdSeason, VmdSectionFigures};
+use vmd_split::VmdTableSizes;
+use vmd_tidy::VmdTidied;
 
 // ---- opening
 
@@ -65,95 +62,222 @@ pub fn opening_of(counts: &[u32; 6], places: &[u64; 6]) -> VmdOpening
     }
 }
 
-// ---- records by number
+// ---- what a value is in a slot
 
-pub fn property_words(x: VmdParsedPropertyFrame) -> [u32; 3]
-    ensures { result ≡ x.frame ∷ flag_byte x.visible ∷ x.ik_count ∷ [] }
-{
-    let visible = wide(vmd_bytes::flag_to_byte(x.visible));
-    [x.frame, visible, x.ik_count]
+// A number, or numbers in the order of include/vmd.h. No From: what `report` promises names `held`, a ghost of the trait.
+pub trait VmdSlot<S> {
+    ghost held: { Self → S };
+
+    fn slot(self) -> S
+        ensures { result ≡ held self };
 }
 
-// ---- names and interpolation bytes
-
-pub fn part_words(part: VmdPart) -> [u64; 2]
-    ensures { result ≡ part_words part }
+// Hands over an answer: the status is the result, and the slot receives what the value is there.
+pub fn report<S: Copy, T: VmdSlot<S>>(answer: Result<T, VmdRefusal>, slot: &mut S) -> u32
+    ensures value { result ≡ status (answer_of answer) }
+    ensures slot_left { slot.new ≡ slot_after slot.old T.held (answer_of answer) }
 {
-    [part.at as u64, part.len as u64]
+    match answer {
+        Err(k) => k.number(),
+        Ok(x) => {
+            *slot = x.slot();
+            0
+        }
+    }
+}
+
+impl VmdSlot<[u32; 8]> for VmdParsedBoneFrame {
+    ghost held = { bone_slot };
+
+    fn slot(self) -> [u32; 8] {
+        [
+            self.frame,
+            self.translation_x,
+            self.translation_y,
+            self.translation_z,
+            self.rotation_x,
+            self.rotation_y,
+            self.rotation_z,
+            self.rotation_w,
+        ]
+    }
+}
+
+impl VmdSlot<[u32; 2]> for VmdParsedMorphFrame {
+    ghost held = { morph_slot };
+
+    fn slot(self) -> [u32; 2] {
+        [self.frame, self.weight]
+    }
+}
+
+impl VmdSlot<[u32; 10]> for VmdParsedCameraFrame {
+    ghost held = { camera_slot };
+
+    fn slot(self) -> [u32; 10] {
+        [
+            self.frame,
+            self.distance,
+            self.position_x,
+            self.position_y,
+            self.position_z,
+            self.rotation_x,
+            self.rotation_y,
+            self.rotation_z,
+            self.fov,
+            u32::from(self.perspective),
+        ]
+    }
+}
+
+impl VmdSlot<[u32; 7]> for VmdParsedLightBits {
+    ghost held = { light_slot };
+
+    fn slot(self) -> [u32; 7] {
+        [
+            self.frame,
+            self.color_r,
+            self.color_g,
+            self.color_b,
+            self.direction_x,
+            self.direction_y,
+            self.direction_z,
+        ]
+    }
+}
+
+impl VmdSlot<[u32; 3]> for VmdParsedSelfShadowFrame {
+    ghost held = { self_shadow_slot };
+
+    fn slot(self) -> [u32; 3] {
+        [self.frame, u32::from(self.mode), self.distance]
+    }
+}
+
+impl VmdSlot<[u32; 3]> for VmdParsedPropertyFrame {
+    ghost held = { property_slot };
+
+    fn slot(self) -> [u32; 3] {
+        [self.frame, u32::from(self.visible), self.ik_count]
+    }
+}
+
+impl VmdSlot<u32> for VmdParsedIkState {
+    ghost held = { λ x. flag_byte x.enabled };
+
+    fn slot(self) -> u32 {
+        u32::from(self.enabled)
+    }
+}
+
+impl VmdSlot<[u64; 2]> for VmdPart {
+    ghost held = { part_words };
+
+    fn slot(self) -> [u64; 2] {
+        [self.at as u64, self.len as u64]
+    }
+}
+
+impl VmdSlot<u64> for u64 {
+    ghost held = { λ n. n };
+
+    fn slot(self) -> u64 {
+        self
+    }
+}
+
+// The six numbers of a section each.
+impl VmdSlot<[u32; 6]> for VmdCounts {
+    ghost held = { λ k. count_words (counts_are k) };
+
+    #[tactic(auto, unfolding(crate::specs::Meaning::count_words))]
+    fn slot(self) -> [u32; 6] {
+        [
+            self.bones,
+            self.morphs,
+            self.cameras,
+            self.lights,
+            self.self_shadows,
+            self.properties,
+        ]
+    }
+}
+
+impl VmdSlot<[u64; 4]> for VmdTableSizes {
+    ghost held = { λ t. size_words (sizes_are t) };
+
+    #[tactic(auto, unfolding(crate::specs::Meaning::size_words))]
+    fn slot(self) -> [u64; 4] {
+        [
+            self.bone_names,
+            self.bone_name_bytes,
+            self.morph_names,
+            self.morph_name_bytes,
+        ]
+    }
+}
+
+// Whether a take is canonical.
+impl VmdSlot<u32> for bool {
+    ghost held = { flag_byte };
+
+    fn slot(self) -> u32 {
+        u32::from(self)
+    }
+}
+
+// What saving would touch first.
+impl VmdSlot<[u64; 2]> for Option<u64> {
+    ghost held = { λ x. change_words (change_is x) };
+
+    fn slot(self) -> [u64; 2] {
+        match self {
+            Some(n) => [1, n],
+            None => [0, 0],
+        }
+    }
+}
+
+impl VmdSlot<[u64; 2]> for VmdMean {
+    ghost held = { λ m. mean_words (mean_is m) };
+
+    #[tactic(auto, unfolding(crate::specs::Meaning::mean_words))]
+    fn slot(self) -> [u64; 2] {
+        [self.quotient, self.remainder]
+    }
 }
 
 // ---- saving and joining
 
-// Hands over what a call that writes answers: the status is the result, and the slot receives the length.
-pub fn report_written(answer: VmdWritten, slot: &mut u64) -> u32
-    ensures value { result ≡ status (written_answer answer) }
-    ensures slot_left { slot.new ≡ slot_after slot.old (λ n. n) (written_answer answer) }
+// Hands over what a call that writes answers: the slot receives the length. It is `report`, under a name that the must-fail edit
+// written_length_not_reported changes.
+pub fn report_written(answer: Result<u64, VmdRefusal>, slot: &mut u64) -> u32
+    ensures value { result ≡ status (answer_of answer) }
+    ensures slot_left { slot.new ≡ slot_after slot.old (λ n. n) (answer_of answer) }
 {
-    match answer {
-        VmdWritten::Refused(k) => k.number(),
-        VmdWritten::Bytes(n) => {
-            *slot = n;
-            0
-        }
-    }
+    report(answer, slot)
 }
 
 // ---- tidying
 
 // Hands over what tidying answers: the status is the result, and the slots receive the length and both numbers of each section.
 pub fn report_tidied(
-    answer: VmdTidyAnswer,
+    tidied: Result<VmdTidied, VmdRefusal>,
     bytes: &mut u64,
     kept: &mut [u32; 6],
     dropped: &mut [u32; 6],
 ) -> u32
-    ensures { (result ≡ status (tidy_answer answer))
-        × (bytes.new ≡ slot_after bytes.old (λ t. t.bytes) (tidy_answer answer))
-        × (kept.new ≡ slot_after kept.old (λ t. count_words t.kept) (tidy_answer answer))
-        × (dropped.new ≡ slot_after dropped.old (λ t. count_words t.dropped) (tidy_answer answer)) }
+    ensures { (result ≡ status (answer report_is tidied))
+        × (bytes.new ≡ slot_after bytes.old (λ t. t.bytes) (answer report_is tidied))
+        × (kept.new ≡ slot_after kept.old (λ t. count_words t.kept) (answer report_is tidied))
+        × (dropped.new ≡ slot_after dropped.old (λ t. count_words t.dropped) (answer report_is tidied)) }
 {
-    match answer {
-        VmdTidyAnswer::Refused(k) => k.number(),
-        VmdTidyAnswer::Tidied(t) => {
-            let k = t.kept;
-            let d = t.dropped;
+    match tidied {
+        Err(k) => k.number(),
+        Ok(t) => {
             *bytes = t.bytes;
-            *kept = [
-                k.bones,
-                k.morphs,
-                k.cameras,
-                k.lights,
-                k.self_shadows,
-                k.properties,
-            ];
-            *dropped = [
-                d.bones,
-                d.morphs,
-                d.cameras,
-                d.lights,
-                d.self_shadows,
-                d.properties,
-            ];
-            0
-        }
-    }
-}
-
-// ---- parts out of a take
-
-// The status of a split, with its numbers in the slot.
-pub fn report_sizes(answer: VmdSplit, sizes: &mut [u64; 4]) -> u32
-    ensures { (result ≡ status (split_is answer)) × (sizes.new ≡ slot_after sizes.old size_words (split_is answer)) }
-{
-    match answer {
-        VmdSplit::Refused(k) => k.number(),
-        VmdSplit::Tables(t) => {
-            *sizes = [
-                t.bone_names,
-                t.bone_name_bytes,
-                t.morph_names,
-                t.morph_name_bytes,
-            ];
+            *kept = t.kept.slot();
+            *dropped = t.dropped.slot();
             0
         }
     }

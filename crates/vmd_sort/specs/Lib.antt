@@ -1,7 +1,10 @@
 pub mod Order
 pub mod OrderLaws
 pub mod Walk
+pub mod Ranking
+pub mod KindLaws
 pub mod WalkLaws
+pub mod FillLaws
 pub mod Keep
 pub mod KeepLaws
 pub mod Arranged

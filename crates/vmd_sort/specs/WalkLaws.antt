@@ -8,6 +8,9 @@ use Rattle.vmd_format.specs.Bytes.{u32}
 use Rattle.vmd_laws.specs.ReadLaws.{All}
 use Rattle.vmd_format.specs.Fetch.{next_frame}
 use Rattle.vmd_tracks.specs.Sorted.{Sorted}
+use Rattle.vmd_records.specs.declared.VmdKind.{VmdKind}
+use Rattle.vmd_records.specs.Kinds.{size_of}
+use Rattle.vmd_sort.specs.KindLaws.{kind_some}
 use Rattle.vmd_sort.specs.Walk.{step, places_by, end_by}
 
 -- ---- steps
@@ -23,6 +26,9 @@ pub step_fixed : (s : List ℕ) (w p : ℕ) → 0 < w → step s w p ≡ p + w
 unfolding step
 step_fixed s zero p h = absurd (omega arith)
 step_fixed s (suc k) p h = refl
+
+pub step_kind : (s : List ℕ) (k : VmdKind) (p : ℕ) → step s (size_of k) p ≡ p + size_of k
+step_kind s k p = step_fixed s (size_of k) p (kind_some k)
 
 pub step_past : (s : List ℕ) (w p : ℕ) → p < step s w p
 unfolding step

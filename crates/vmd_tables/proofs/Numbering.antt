@@ -12,6 +12,8 @@ use Rattle.vmd_format.specs.Parts.{upto}
 use Rattle.vmd_bytes.specs.Slices.{splice, run}
 use Rattle.vmd_bytes.proofs.Laws.{splice_nil, length_splice, splice_append_at, splice_snoc_at, run_all}
 use Rattle.vmd_keys.specs.Names.{name_in, names_in, whole, distinct}
+use Rattle.vmd_keys.specs.declared.VmdRows.{VmdRows}
+use Rattle.vmd_tables.specs.Rowed.{raw_names}
 use Rattle.vmd_keys.specs.Keys.{Rows, key}
 use Rattle.vmd_keys.proofs.KeyLaws.{spot_in, spot_room, key_tells, key_same}
 use Rattle.vmd_count.specs.DistinctLaws.{Member, distinct_short}
@@ -64,11 +66,10 @@ pub record Space (s : List ℕ) (at size n : ℕ) (bytes ends indices : List ℕ
   pub few : n ≤ 4294967295
   pub each : n ≤ length indices
 
-pub space : {s : List ℕ} {at size n : ℕ} {f : ℕ → ℕ} {leads bytes ends indices : List ℕ}
-    → (Rows s at size n × (n ≤ 4294967295) × (n ≤ length indices) × (n ≤ length leads) × First f n leads)
-    × ((length (distinct (names_in s at size n)) ≤ length ends) × (length (name_table (names_in s at size n)).bytes ≤ length bytes) × (length (name_table (names_in s at size n)).bytes ≤ 4294967295))
-    → Space s at size n bytes ends indices
-space p = record { names = p.1.0; bytes_fit = p.1.1; short = p.1.2; few = p.0.1; each = p.0.2 }
+pub space : (r : VmdRows) {bytes ends indices : List ℕ} → r.count ≤ length indices
+    → (length (distinct (raw_names r)) ≤ length ends) × (length (name_table (raw_names r)).bytes ≤ length bytes) × (length (name_table (raw_names r)).bytes ≤ 4294967295)
+    → Space r.file.now r.place r.size r.count bytes ends indices
+space r h p = record { names = p.0; bytes_fit = p.1; short = p.2; few = r.few; each = h }
 
 module _ (s : List ℕ) (at size : ℕ) (b₀ e₀ x₀ : List ℕ) where
   pub numbered_start : Numbered s at size 0 0 0 b₀ b₀ e₀ e₀ x₀ x₀

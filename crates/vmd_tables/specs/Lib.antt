@@ -1,3 +1,4 @@
 pub mod Tables
 pub mod Leading
 pub mod Examples
+pub mod Rowed

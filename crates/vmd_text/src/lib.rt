@@ -45,12 +45,10 @@ pub fn write_lines(out: &mut [u8], numbers: &[u32]) -> usize
     ensures { Wrote out.old 0 (number_lines numbers.now) out.new result }
 {
     let mut at = 0;
-    let mut i = 0;
-    while i < numbers.len() {
-        at = write_decimal(out, at, numbers[i] as u64);
+    for number in numbers {
+        at = write_decimal(out, at, u64::from(*number));
         out[at] = b'\n';
         at += 1;
-        i += 1;
     }
     at
 }

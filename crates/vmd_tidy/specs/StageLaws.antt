@@ -1,5 +1,5 @@
 -- Laws of a scanned take that is tidied section by section.
-use Rattle.std.specs.Prelude.{ℕ, zero, suc, ◌+◌, ◌-◌, ◌≤◌, ◌<◌, ◌≡◌, refl, Bool, true, false, List, ◌++◌, leb, drop, replicate}
+use Rattle.std.specs.Prelude.{ℕ, ◌+◌, ◌-◌, ◌≤◌, ◌<◌, ◌≡◌, refl, Bool, true, false, List, ◌++◌, leb, drop, replicate}
 use Rattle.std.proofs.Math.Path.{ap, sym}
 use Rattle.std.proofs.Common.{◌∙◌, append_assoc, zero-add, arith, le-leb, leb-true, drop-drop}
 use Rattle.std.proofs.lemmas.Bool.{lt-leb}
@@ -8,10 +8,10 @@ use Rattle.vmd_format.specs.Refusal.{Refusal, scratch_too_short, output_too_shor
 use Rattle.vmd_format.specs.Answer.{declined, given, map_answer, and_then, unless, within, left}
 use Rattle.vmd_format.specs.Read.{Manner, fixed, write_counted}
 use Rattle.vmd_format.specs.Records.{bone, morph, camera, light, self_shadow}
-use Rattle.vmd_format.specs.Fetch.{next_frame, model_of}
+use Rattle.vmd_format.specs.Fetch.{model_of}
 use Rattle.vmd_format.specs.Take.{Take, newer, property, take_of, write_take, write_edition, write_header, write_sections}
 use Rattle.vmd_format.specs.Opening.{Scan, ik_total}
-use Rattle.vmd_laws.specs.Places.{Reaches, scan_file}
+use Rattle.vmd_laws.specs.Places.{scan_file}
 use Rattle.vmd_laws.specs.ScanLaws.{file_in}
 use Rattle.vmd_laws.specs.PlacesLaws.{section_in}
 use Rattle.vmd_format.specs.Join.{file_length}
@@ -24,8 +24,8 @@ use Rattle.vmd_bytes.proofs.Writes.{rest_as}
 use Rattle.vmd_records.specs.declared.VmdKind.TheVariants as kind
 use Rattle.vmd_tables.specs.Leading.{Beyond}
 use Rattle.vmd_sort.specs.Walk.{step, end_by}
-use Rattle.vmd_sort.specs.WalkLaws.{step_frame}
 use Rattle.vmd_tidy_sections.specs.Sections.{tidied_rows, tidied_frames}
+use Rattle.vmd_tidy_sections.specs.WalkLaws.{reach_ends}
 use Rattle.vmd_keys.specs.Names.{registration_name}
 use Rattle.vmd_tracks.specs.Tidy.{tidy, tidy_by}
 use Rattle.vmd_tidy.specs.Tidied.{Counts, counts_of, dropped_by, largest_section, tidied_file, fitting, tidying, Report, report, cleared}
@@ -47,11 +47,6 @@ unfolding largest_section largest_count
 largest_is s x h = let q = scan_counts s x h in rw (q.bones, q.morphs, q.cameras, q.lights, q.self_shadows, q.properties)
 
 -- ---- property frames lie in the file
-
-reach_ends : (s : List ℕ) (n at : ℕ) → at ≤ length s → Reaches s n at → end_by (step s 0) n at ≤ length s
-unfolding Reaches end_by
-reach_ends s zero at h r = h
-reach_ends s (suc n) at h r = rw (step_frame s at) (reach_ends s n (next_frame s at) r.0 r.1)
 
 pub scan_ends : (s : List ℕ) (x : Scan) → Scanned s x → end_by (step s 0) x.properties.count x.properties.place ≤ length s
 scan_ends s x h = reach_ends s x.properties.count x.properties.place h.inside.properties.place (inside_reaches s x h.inside)

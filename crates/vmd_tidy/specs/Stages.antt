@@ -4,7 +4,7 @@ use Rattle.vmd_format.specs.Answer.{Answer, declined, given}
 use Rattle.vmd_format.specs.Records.{bone, morph, camera, light, self_shadow}
 use Rattle.vmd_format.specs.Read.{fixed, write_counted}
 use Rattle.vmd_format.specs.Take.{Take, property}
-use Rattle.vmd_format.specs.Opening.{Scan}
+use Rattle.vmd_format.specs.Opening.{ik_total, Scan}
 use Rattle.vmd_format.specs.Fetch.{model_of}
 use Rattle.vmd_records.specs.declared.VmdKind.TheVariants as kind
 use Rattle.vmd_tidy_sections.specs.Sections.{tidied_rows, tidied_frames}
@@ -61,6 +61,11 @@ pub record Back (s : List ℕ) (x : Scan) (lights shadows properties : ℕ) : Ty
   pub lights_are : lights ≡ length (tidied_rows kind.Light s x.lights)
   pub shadows_are : shadows ≡ length (tidied_rows kind.SelfShadow s x.self_shadows)
   pub properties_are : properties ≡ length (tidied_frames s x.properties)
+
+-- so many of each section are kept, and so many IK states
+pub record Kept (s : List ℕ) (x : Scan) (k : Counts) (ik_states : ℕ) : Type 0 where
+  pub counts_are : k ≡ counts_at s x
+  pub states_are : ik_states ≡ ik_total (tidied_at s x).properties
 
 -- not more records than a scan has, and the others
 pub record Fewer (k : Counts) (x : Scan) : Type 0 where

@@ -2,176 +2,143 @@
 // nothing of their caller, and each states its answer, and every byte and place lent, by an equation with a definition.
 #![tactic(auto)]
 
-ghost use Rattle.std.specs.Prelude.{◌≡◌, ◌≤◌, max, leb, length};
-ghost use Rattle.vmd_format.specs.Answer.{map_answer, left};
+ghost use Rattle.std.specs.Prelude.{◌≡◌, ◌++◌, ◌≤◌, leb, length, IfOk};
 ghost use Rattle.vmd_format.specs.Read.{strict};
 ghost use Rattle.vmd_format.specs.Take.{write_take};
-ghost use Rattle.vmd_format.specs.Opening.{ik_total};
-ghost use Rattle.vmd_laws.specs.ExportLaws.{Scanned, take_in};
-ghost use Rattle.vmd_base.specs.Meaning.{manner_of};
-ghost use Rattle.vmd_output.specs.Meaning.{written_answer};
+ghost use Rattle.vmd_laws.specs.ExportLaws.{take_in};
+ghost use Rattle.vmd_base.specs.Meaning.{answer, manner_of};
 ghost use Rattle.vmd_scan.specs.Meaning.{scan_is};
 ghost use Rattle.vmd_bytes.specs.Written.{Room, Wrote};
 ghost use Rattle.vmd_tables.specs.Leading.{Beyond};
-ghost use Rattle.vmd_tidy.specs.Tidied.{tidied_file, fitting, report, cleared, tidied_answer, tidied_output, tidied_scratch, size_answer, size_scratch, longest};
-ghost use Rattle.vmd_tidy.specs.Meaning.{counts_are, tidy_answer};
-ghost use Rattle.vmd_tidy.specs.Stages.{is_given, size_given, largest_count, tidied_at, front_bytes, back_bytes, Front, Back, Fewer, Whole, counts_at};
+ghost use Rattle.vmd_tidy.specs.Tidied.{fitting, tidied_answer, tidied_output, tidied_scratch, size_answer, size_scratch, longest};
+ghost use Rattle.vmd_tidy.specs.Meaning.{counts_are, report_is};
+ghost use Rattle.vmd_tidy.specs.Stages.{largest_count, tidied_at, front_bytes, back_bytes, Kept, Fewer, Whole, counts_at};
 
-use vmd_base::{VmdEdition, VmdManner, VmdRefusal};
-use vmd_output::VmdWritten;
+use vmd_base::{VmdCounts, VmdEdition, VmdManner, VmdRefusal};
 use vmd_records::VmdKind;
-use vmd_scan::{ScanAnswer, VmdSections};
-
-// How many records each section has.
-#[derive(Clone, Copy)]
-pub struct VmdCounts {
-    pub bones: u32,
-    pub morphs: u32,
-    pub cameras: u32,
-    pub lights: u32,
-    pub self_shadows: u32,
-    pub properties: u32,
-}
+use vmd_scan::VmdSections;
+use vmd_scan::scanned::VmdScanned;
 
 // A take that was tidied: the bytes of its file, and how many records of each section it keeps and how many were dropped.
-#[derive(Clone, Copy)]
+#[derive(Clone, Copy, Debug, PartialEq, Eq)]
 pub struct VmdTidied {
     pub bytes: u64,
     pub kept: VmdCounts,
     pub dropped: VmdCounts,
 }
 
-#[derive(Clone, Copy)]
-pub enum VmdTidyAnswer {
-    Refused(VmdRefusal),
-    Tidied(VmdTidied),
-}
-
 // ---- how much scratch and output there has to be
-
-fn larger(a: u32, b: usize) -> usize
-    ensures { result ≡ max a b }
-{
-    if b < a as usize {
-        return a as usize;
-    }
-    b
-}
 
 // How many records the largest section has.
 fn largest_section(x: VmdSections) -> usize
     ensures { result ≡ largest_count (scan_is x) }
 {
-    let two = larger(x.self_shadows.count, x.properties.count as usize);
-    let three = larger(x.lights.count, two);
-    let four = larger(x.cameras.count, three);
-    let five = larger(x.morphs.count, four);
-    larger(x.bones.count, five)
+    let n = x.counts();
+    let front = n.bones.max(n.morphs).max(n.cameras);
+    let back = n.lights.max(n.self_shadows).max(n.properties);
+    front.max(back) as usize
 }
 
-// Whether a size was not refused.
-fn fits(size: VmdWritten) -> bool
-    ensures { result ≡ is_given (written_answer size) }
+// How many records of each section tidying keeps, and how many IK states its property frames have together.
+#[derive(Clone, Copy, Debug, PartialEq, Eq)]
+struct VmdKept {
+    counts: VmdCounts,
+    ik_states: u64,
+}
+
+// What tidying keeps, counted without the scratch.
+fn count_kept(take: &VmdScanned) -> VmdKept
+    ensures { Kept take.now.file.now (scan_is take.now.sections) (counts_are result.counts) result.ik_states }
 {
-    match size {
-        VmdWritten::Refused(_) => false,
-        VmdWritten::Bytes(_) => true,
+    let bones = vmd_tidy_sections::count_records(take.records(VmdKind::Bone));
+    let morphs = vmd_tidy_sections::count_records(take.records(VmdKind::Morph));
+    let cameras = vmd_tidy_sections::count_records(take.records(VmdKind::Camera));
+    let lights = vmd_tidy_sections::count_records(take.records(VmdKind::Light));
+    let self_shadows = vmd_tidy_sections::count_records(take.records(VmdKind::SelfShadow));
+    let frames = vmd_tidy_sections::count_properties(take.property_frames());
+    VmdKept {
+        counts: VmdCounts {
+            bones,
+            morphs,
+            cameras,
+            lights,
+            self_shadows,
+            properties: frames.frames,
+        },
+        ik_states: frames.ik_states,
     }
-}
-
-// Whether the tidied file is within a limit, its records counted without the scratch.
-fn counted_fit(limit: usize, s: &[u8], x: VmdSections) -> bool
-    requires { Scanned s.now (scan_is x) }
-    ensures { result ≡ leb (length (write_take (tidied_at s.now (scan_is x)))) limit }
-{
-    let bones = vmd_tidy_sections::count_records(s, VmdKind::Bone, x.bones);
-    let morphs = vmd_tidy_sections::count_records(s, VmdKind::Morph, x.morphs);
-    let cameras = vmd_tidy_sections::count_records(s, VmdKind::Camera, x.cameras);
-    let lights = vmd_tidy_sections::count_records(s, VmdKind::Light, x.lights);
-    let shadows = vmd_tidy_sections::count_records(s, VmdKind::SelfShadow, x.self_shadows);
-    let frames = vmd_tidy_sections::count_properties(s, x.properties);
-    fits(vmd_output::file_size(
-        limit,
-        VmdEdition::Newer,
-        bones,
-        morphs,
-        cameras,
-        lights,
-        shadows,
-        frames.frames,
-        frames.ik_states,
-    ))
 }
 
 // Whether the tidied file is within a limit. It is not longer than the export: only where that is too long is anything counted.
-fn tidied_fits(limit: usize, s: &[u8], x: VmdSections) -> bool
-    requires { Scanned s.now (scan_is x) }
-    ensures { result ≡ leb (length (write_take (tidied_at s.now (scan_is x)))) limit }
+fn tidied_fits(limit: usize, take: &VmdScanned) -> bool
+    ensures { result ≡ leb (length (write_take (tidied_at take.now.file.now (scan_is take.now.sections)))) limit }
 {
-    let export = vmd_output::file_size(
-        limit,
-        VmdEdition::Newer,
-        x.bones.count,
-        x.morphs.count,
-        x.cameras.count,
-        x.lights.count,
-        x.self_shadows.count,
-        x.properties.count,
-        x.ik_states,
-    );
-    if fits(export) {
+    let x = take.sections;
+    let export = vmd_output::file_size(limit, VmdEdition::Newer, x.counts(), x.ik_states);
+    if export.is_ok() {
         return true;
     }
-    counted_fit(limit, s, x)
+    let kept = count_kept(take);
+    let tidied = vmd_output::file_size(limit, VmdEdition::Newer, kept.counts, kept.ik_states);
+    tidied.is_ok()
+}
+
+// How many places of scratch a take needs, where so many are lent and its tidied file has room.
+fn places_for(places: usize, room: usize, take: &VmdScanned) -> Result<usize, VmdRefusal>
+    ensures found { answer (λ _. take_in take.now.file.now (scan_is take.now.sections)) result ≡ fitting places room (take_in take.now.file.now (scan_is take.now.sections)) }
+    ensures needed { IfOk result (λ n. (n ≡ largest_count (scan_is take.now.sections)) × (n ≤ places) × (length (write_take (tidied_at take.now.file.now (scan_is take.now.sections))) ≤ room)) }
+{
+    let needed = largest_section(take.sections);
+    if places < needed {
+        return Err(VmdRefusal::ScratchTooShort);
+    }
+    if !tidied_fits(room, take) {
+        return Err(VmdRefusal::OutputTooShort);
+    }
+    Ok(needed)
 }
 
 // ---- the sections written
 
-// Where bones, morphs and cameras end, and how many there are.
-#[derive(Clone, Copy)]
-struct VmdFront {
+// Where the last section ends, and how many records of each are kept.
+#[derive(Clone, Copy, Debug, PartialEq, Eq)]
+struct VmdTidiedSections {
     end: usize,
-    bones: u32,
-    morphs: u32,
-    cameras: u32,
+    kept: VmdCounts,
 }
 
-fn write_front(out: &mut [u8], to: usize, a: &mut [u64], s: &[u8], x: VmdSections) -> VmdFront
-    requires { Scanned s.now (scan_is x) × (largest_count (scan_is x) ≤ length a.old) × Room out.old to (front_bytes s.now (scan_is x)) }
-    ensures { Wrote out.old to (front_bytes s.now (scan_is x)) out.new result.end × Front s.now (scan_is x) result.bones result.morphs result.cameras × Beyond (largest_count (scan_is x)) a.old a.new }
+// All six sections, tidied.
+fn write_sections(
+    out: &mut [u8],
+    to: usize,
+    scratch: &mut [u64],
+    take: &VmdScanned,
+) -> VmdTidiedSections
+    requires { (largest_count (scan_is take.now.sections) ≤ length scratch.old) × Room out.old to (front_bytes take.now.file.now (scan_is take.now.sections) ++ back_bytes take.now.file.now (scan_is take.now.sections)) }
+    ensures { Wrote out.old to (front_bytes take.now.file.now (scan_is take.now.sections) ++ back_bytes take.now.file.now (scan_is take.now.sections)) out.new result.end × (counts_are result.kept ≡ counts_at take.now.file.now (scan_is take.now.sections)) × Beyond (largest_count (scan_is take.now.sections)) scratch.old scratch.new }
 {
-    let b = vmd_tidy_sections::write_tidied(out, to, a, s, VmdKind::Bone, x.bones);
-    let m = vmd_tidy_sections::write_tidied(out, b.end, a, s, VmdKind::Morph, x.morphs);
-    let c = vmd_tidy_sections::write_tidied(out, m.end, a, s, VmdKind::Camera, x.cameras);
-    VmdFront {
-        end: c.end,
-        bones: b.kept,
-        morphs: m.kept,
-        cameras: c.kept,
-    }
-}
-
-// The same of lights, self-shadows and properties.
-#[derive(Clone, Copy)]
-struct VmdBack {
-    end: usize,
-    lights: u32,
-    self_shadows: u32,
-    properties: u32,
-}
-
-fn write_back(out: &mut [u8], to: usize, a: &mut [u64], s: &[u8], x: VmdSections) -> VmdBack
-    requires { Scanned s.now (scan_is x) × (largest_count (scan_is x) ≤ length a.old) × Room out.old to (back_bytes s.now (scan_is x)) }
-    ensures { Wrote out.old to (back_bytes s.now (scan_is x)) out.new result.end × Back s.now (scan_is x) result.lights result.self_shadows result.properties × Beyond (largest_count (scan_is x)) a.old a.new }
-{
-    let l = vmd_tidy_sections::write_tidied(out, to, a, s, VmdKind::Light, x.lights);
-    let d = vmd_tidy_sections::write_tidied(out, l.end, a, s, VmdKind::SelfShadow, x.self_shadows);
-    let p = vmd_tidy_sections::write_tidied_properties(out, d.end, a, s, x.properties);
-    VmdBack {
+    let bones = take.records(VmdKind::Bone);
+    let morphs = take.records(VmdKind::Morph);
+    let cameras = take.records(VmdKind::Camera);
+    let lights = take.records(VmdKind::Light);
+    let self_shadows = take.records(VmdKind::SelfShadow);
+    let properties = take.property_frames();
+    let b = vmd_tidy_sections::write_tidied(out, to, scratch, bones);
+    let m = vmd_tidy_sections::write_tidied(out, b.end, scratch, morphs);
+    let c = vmd_tidy_sections::write_tidied(out, m.end, scratch, cameras);
+    let l = vmd_tidy_sections::write_tidied(out, c.end, scratch, lights);
+    let d = vmd_tidy_sections::write_tidied(out, l.end, scratch, self_shadows);
+    let p = vmd_tidy_sections::write_tidied_properties(out, d.end, scratch, properties);
+    VmdTidiedSections {
         end: p.end,
-        lights: l.kept,
-        self_shadows: d.kept,
-        properties: p.kept,
+        kept: VmdCounts {
+            bones: b.kept,
+            morphs: m.kept,
+            cameras: c.kept,
+            lights: l.kept,
+            self_shadows: d.kept,
+            properties: p.kept,
+        },
     }
 }
 
@@ -190,151 +157,65 @@ fn dropped_from(x: VmdSections, kept: VmdCounts) -> VmdCounts
     }
 }
 
-// The tidied file of a take that was scanned, where it has room.
-fn write_file(out: &mut [u8], a: &mut [u64], s: &[u8], x: VmdSections) -> VmdTidied
-    requires { Scanned s.now (scan_is x) × (largest_count (scan_is x) ≤ length a.old) × Room out.old 0 (write_take (tidied_at s.now (scan_is x))) }
-    ensures { Wrote out.old 0 (write_take (tidied_at s.now (scan_is x))) out.new result.bytes × (counts_are result.kept ≡ counts_at s.now (scan_is x)) × Whole (counts_are result.kept) (counts_are result.dropped) (scan_is x) × Beyond (largest_count (scan_is x)) a.old a.new }
+// The tidied file of a take, where it has room.
+fn write_file(out: &mut [u8], scratch: &mut [u64], take: &VmdScanned) -> VmdTidied
+    requires { (largest_count (scan_is take.now.sections) ≤ length scratch.old) × Room out.old 0 (write_take (tidied_at take.now.file.now (scan_is take.now.sections))) }
+    ensures { Wrote out.old 0 (write_take (tidied_at take.now.file.now (scan_is take.now.sections))) out.new result.bytes × (counts_are result.kept ≡ counts_at take.now.file.now (scan_is take.now.sections)) × Whole (counts_are result.kept) (counts_are result.dropped) (scan_is take.now.sections) × Beyond (largest_count (scan_is take.now.sections)) scratch.old scratch.new }
 {
-    let to = vmd_output::write_header(out, VmdEdition::Newer, vmd_header::model_name(s));
-    let f = write_front(out, to, a, s, x);
-    let b = write_back(out, f.end, a, s, x);
-    let kept = VmdCounts {
-        bones: f.bones,
-        morphs: f.morphs,
-        cameras: f.cameras,
-        lights: b.lights,
-        self_shadows: b.self_shadows,
-        properties: b.properties,
-    };
+    let model = vmd_header::model_name(take.file);
+    let to = vmd_output::write_header(out, VmdEdition::Newer, model);
+    let written = write_sections(out, to, scratch, take);
     VmdTidied {
-        bytes: b.end as u64,
-        kept,
-        dropped: dropped_from(x, kept),
+        bytes: written.end as u64,
+        kept: written.kept,
+        dropped: dropped_from(take.sections, written.kept),
     }
-}
-
-// The whole call on a take that was scanned.
-fn tidy_scanned(out: &mut [u8], scratch: &mut [u64], s: &[u8], x: VmdSections) -> VmdTidyAnswer
-    requires { Scanned s.now (scan_is x) }
-    ensures result_value { tidy_answer result ≡ map_answer report (fitting (length scratch.old) (length out.old) (take_in s.now (scan_is x))) }
-    ensures out_after { out.new ≡ left out.old (map_answer tidied_file (fitting (length scratch.old) (length out.old) (take_in s.now (scan_is x)))) }
-    ensures scratch_left { scratch.new ≡ cleared scratch.old (fitting (length scratch.old) (length out.old) (take_in s.now (scan_is x))) }
-{
-    let places = largest_section(x);
-    if scratch.len() < places {
-        return VmdTidyAnswer::Refused(VmdRefusal::ScratchTooShort);
-    }
-    if !tidied_fits(out.len(), s, x) {
-        return VmdTidyAnswer::Refused(VmdRefusal::OutputTooShort);
-    }
-    let done = write_file(out, scratch, s, x);
-    vmd_tidy_sections::clear_places(scratch, places);
-    VmdTidyAnswer::Tidied(done)
 }
 
 // ---- how long the output has to be
 
-// How many bones, morphs and cameras are kept.
-#[derive(Clone, Copy)]
-struct VmdFrontKept {
-    bones: u32,
-    morphs: u32,
-    cameras: u32,
-}
-
-fn keep_front(a: &mut [u64], s: &[u8], x: VmdSections) -> VmdFrontKept
-    requires { Scanned s.now (scan_is x) × (largest_count (scan_is x) ≤ length a.old) }
-    ensures { Front s.now (scan_is x) result.bones result.morphs result.cameras × Beyond (largest_count (scan_is x)) a.old a.new }
+// What tidying keeps; the places are left as it leaves them.
+fn keep_sections(scratch: &mut [u64], take: &VmdScanned) -> VmdKept
+    requires { largest_count (scan_is take.now.sections) ≤ length scratch.old }
+    ensures { Kept take.now.file.now (scan_is take.now.sections) (counts_are result.counts) result.ik_states × Beyond (largest_count (scan_is take.now.sections)) scratch.old scratch.new }
 {
-    VmdFrontKept {
-        bones: vmd_tidy_sections::keep_records(a, s, VmdKind::Bone, x.bones),
-        morphs: vmd_tidy_sections::keep_records(a, s, VmdKind::Morph, x.morphs),
-        cameras: vmd_tidy_sections::keep_records(a, s, VmdKind::Camera, x.cameras),
-    }
-}
-
-// How many lights, self-shadows, properties and IK states are kept.
-#[derive(Clone, Copy)]
-struct VmdBackKept {
-    lights: u32,
-    self_shadows: u32,
-    properties: u32,
-    ik_states: u64,
-}
-
-fn keep_back(a: &mut [u64], s: &[u8], x: VmdSections) -> VmdBackKept
-    requires { Scanned s.now (scan_is x) × (largest_count (scan_is x) ≤ length a.old) }
-    ensures { Back s.now (scan_is x) result.lights result.self_shadows result.properties × (result.ik_states ≡ ik_total (tidied_at s.now (scan_is x)).properties) × Beyond (largest_count (scan_is x)) a.old a.new }
-{
-    let lights = vmd_tidy_sections::keep_records(a, s, VmdKind::Light, x.lights);
-    let shadows = vmd_tidy_sections::keep_records(a, s, VmdKind::SelfShadow, x.self_shadows);
-    let frames = vmd_tidy_sections::keep_properties(a, s, x.properties);
-    VmdBackKept {
-        lights,
-        self_shadows: shadows,
-        properties: frames.frames,
+    let bones = vmd_tidy_sections::keep_records(scratch, take.records(VmdKind::Bone));
+    let morphs = vmd_tidy_sections::keep_records(scratch, take.records(VmdKind::Morph));
+    let cameras = vmd_tidy_sections::keep_records(scratch, take.records(VmdKind::Camera));
+    let lights = vmd_tidy_sections::keep_records(scratch, take.records(VmdKind::Light));
+    let shadows = take.records(VmdKind::SelfShadow);
+    let self_shadows = vmd_tidy_sections::keep_records(scratch, shadows);
+    let frames = vmd_tidy_sections::keep_properties(scratch, take.property_frames());
+    VmdKept {
+        counts: VmdCounts {
+            bones,
+            morphs,
+            cameras,
+            lights,
+            self_shadows,
+            properties: frames.frames,
+        },
         ik_states: frames.ik_states,
     }
 }
 
-// The size that was not refused.
-fn size_of(size: VmdWritten) -> u64
-    ensures { result ≡ size_given (written_answer size) }
-{
-    match size {
-        VmdWritten::Refused(_) => 0,
-        VmdWritten::Bytes(n) => n,
-    }
-}
-
 // What a tidied file has, which is not longer than an output can be.
-fn measure_file(a: &mut [u64], s: &[u8], x: VmdSections) -> VmdTidied
-    requires { Scanned s.now (scan_is x) × (largest_count (scan_is x) ≤ length a.old) × (length (write_take (tidied_at s.now (scan_is x))) ≤ longest) }
-    ensures { (result.bytes ≡ length (write_take (tidied_at s.now (scan_is x)))) × (counts_are result.kept ≡ counts_at s.now (scan_is x)) × Whole (counts_are result.kept) (counts_are result.dropped) (scan_is x) × Beyond (largest_count (scan_is x)) a.old a.new }
+fn measure_file(scratch: &mut [u64], take: &VmdScanned) -> VmdTidied
+    requires { (largest_count (scan_is take.now.sections) ≤ length scratch.old) × (length (write_take (tidied_at take.now.file.now (scan_is take.now.sections))) ≤ longest) }
+    ensures { (result.bytes ≡ length (write_take (tidied_at take.now.file.now (scan_is take.now.sections)))) × (counts_are result.kept ≡ counts_at take.now.file.now (scan_is take.now.sections)) × Whole (counts_are result.kept) (counts_are result.dropped) (scan_is take.now.sections) × Beyond (largest_count (scan_is take.now.sections)) scratch.old scratch.new }
 {
-    let f = keep_front(a, s, x);
-    let b = keep_back(a, s, x);
-    let kept = VmdCounts {
-        bones: f.bones,
-        morphs: f.morphs,
-        cameras: f.cameras,
-        lights: b.lights,
-        self_shadows: b.self_shadows,
-        properties: b.properties,
-    };
+    let kept = keep_sections(scratch, take);
     let size = vmd_output::file_size(
         vmd_output::LARGEST,
         VmdEdition::Newer,
-        f.bones,
-        f.morphs,
-        f.cameras,
-        b.lights,
-        b.self_shadows,
-        b.properties,
-        b.ik_states,
+        kept.counts,
+        kept.ik_states,
     );
     VmdTidied {
-        bytes: size_of(size),
-        kept,
-        dropped: dropped_from(x, kept),
+        bytes: size.unwrap(),
+        kept: kept.counts,
+        dropped: dropped_from(take.sections, kept.counts),
     }
-}
-
-fn measure_scanned(scratch: &mut [u64], s: &[u8], x: VmdSections) -> VmdTidyAnswer
-    requires { Scanned s.now (scan_is x) }
-    ensures result_value { tidy_answer result ≡ map_answer report (fitting (length scratch.old) longest (take_in s.now (scan_is x))) }
-    ensures scratch_left { scratch.new ≡ cleared scratch.old (fitting (length scratch.old) longest (take_in s.now (scan_is x))) }
-{
-    let places = largest_section(x);
-    if scratch.len() < places {
-        return VmdTidyAnswer::Refused(VmdRefusal::ScratchTooShort);
-    }
-    if !tidied_fits(vmd_output::LARGEST, s, x) {
-        return VmdTidyAnswer::Refused(VmdRefusal::OutputTooShort);
-    }
-    let done = measure_file(scratch, s, x);
-    vmd_tidy_sections::clear_places(scratch, places);
-    VmdTidyAnswer::Tidied(done)
 }
 
 // ---- the calls, with the manner of reading named
@@ -346,40 +227,50 @@ pub fn tidy_file(
     manner: VmdManner,
     scratch: &mut [u64],
     out: &mut [u8],
-) -> VmdTidyAnswer
-    ensures result_value { tidy_answer result ≡ tidied_answer (manner_of manner) file.now scratch.old out.old }
+) -> Result<VmdTidied, VmdRefusal>
+    ensures result_value { answer report_is result ≡ tidied_answer (manner_of manner) file.now scratch.old out.old }
     ensures out_after { out.new ≡ tidied_output (manner_of manner) file.now scratch.old out.old }
     ensures scratch_left { scratch.new ≡ tidied_scratch (manner_of manner) file.now scratch.old out.old }
 {
-    match vmd_scan::scan_file(file, manner) {
-        ScanAnswer::Refused(k) => VmdTidyAnswer::Refused(k),
-        ScanAnswer::Scanned(x) => tidy_scanned(out, scratch, file, x),
-    }
+    let take = vmd_scan::scan_file(file, manner)?;
+    let places = places_for(scratch.len(), out.len(), &take)?;
+    let tidied = write_file(out, scratch, &take);
+    vmd_tidy_sections::clear_places(scratch, places);
+    Ok(tidied)
 }
 
 // How long its output has to be. The scratch is that of the call, and is left as the call leaves it.
-pub fn tidy_file_size(file: &[u8], manner: VmdManner, scratch: &mut [u64]) -> VmdTidyAnswer
-    ensures result_value { tidy_answer result ≡ size_answer (manner_of manner) file.now scratch.old }
+pub fn tidy_file_size(
+    file: &[u8],
+    manner: VmdManner,
+    scratch: &mut [u64],
+) -> Result<VmdTidied, VmdRefusal>
+    ensures result_value { answer report_is result ≡ size_answer (manner_of manner) file.now scratch.old }
     ensures scratch_left { scratch.new ≡ size_scratch (manner_of manner) file.now scratch.old }
 {
-    match vmd_scan::scan_file(file, manner) {
-        ScanAnswer::Refused(k) => VmdTidyAnswer::Refused(k),
-        ScanAnswer::Scanned(x) => measure_scanned(scratch, file, x),
-    }
+    let take = vmd_scan::scan_file(file, manner)?;
+    let places = places_for(scratch.len(), vmd_output::LARGEST, &take)?;
+    let tidied = measure_file(scratch, &take);
+    vmd_tidy_sections::clear_places(scratch, places);
+    Ok(tidied)
 }
 
 // ---- the same in the strict manner, which is meant where none is named
 
-pub fn tidy_vmd_animation(file: &[u8], scratch: &mut [u64], out: &mut [u8]) -> VmdTidyAnswer
-    ensures result_value { tidy_answer result ≡ tidied_answer strict file.now scratch.old out.old }
+pub fn tidy_vmd_animation(
+    file: &[u8],
+    scratch: &mut [u64],
+    out: &mut [u8],
+) -> Result<VmdTidied, VmdRefusal>
+    ensures result_value { answer report_is result ≡ tidied_answer strict file.now scratch.old out.old }
     ensures out_after { out.new ≡ tidied_output strict file.now scratch.old out.old }
     ensures scratch_left { scratch.new ≡ tidied_scratch strict file.now scratch.old out.old }
 {
     tidy_file(file, VmdManner::Strict, scratch, out)
 }
 
-pub fn tidy_vmd_size(file: &[u8], scratch: &mut [u64]) -> VmdTidyAnswer
-    ensures result_value { tidy_answer result ≡ size_answer strict file.now scratch.old }
+pub fn tidy_vmd_size(file: &[u8], scratch: &mut [u64]) -> Result<VmdTidied, VmdRefusal>
+    ensures result_value { answer report_is result ≡ size_answer strict file.now scratch.old }
     ensures scratch_left { scratch.new ≡ size_scratch strict file.now scratch.old }
 {
     tidy_file_size(file, VmdManner::Strict, scratch)

@@ -1,5 +1,4 @@
 pub mod Sections
-pub mod KindLaws
 pub mod WalkLaws
 pub mod RunLaws
 pub mod SectionLaws

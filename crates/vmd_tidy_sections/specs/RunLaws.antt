@@ -70,18 +70,20 @@ module _ (f : ℕ → List ℕ) (l out₀ : List ℕ) (to : ℕ) where
 -- ---- what a run of records is
 
 module _ {A : Type 0} (K : Layout A) (s : List ℕ) (w : ℕ) (some : 0 < w) (z : K.size ≡ w) where
+  pub records_are : (n at : ℕ) → write_all K.encode (table K n (drop at s)) ≡ write_all (placed K s) (places_by (step s w) n at)
+  records_are n at =
+      ap (write_all K.encode) (table_places K s w some z n at) ∙ write_map K.encode (λ p. K.decode (drop p s)) (places_by (step s w) n at)
+
   pub run_records : (l : List ℕ) (i n : ℕ) → take n (drop i l) ≡ places_by (step s w) n (get_or l i 0)
       → write_all K.encode (table K n (drop (get_or l i 0) s)) ≡ write_all (placed K s) (take n (drop i l))
-  run_records l i n e =
-      ap (write_all K.encode) (table_places K s w some z n (get_or l i 0))
-      ∙ write_map K.encode (λ p. K.decode (drop p s)) (places_by (step s w) n (get_or l i 0)) ∙ ap (write_all (placed K s)) (sym e)
+  run_records l i n e = records_are n (get_or l i 0) ∙ ap (write_all (placed K s)) (sym e)
+
+pub frames_are : (s : List ℕ) (n at : ℕ) → write_all property.write (frames_in s n at) ≡ write_all (λ p. property.write (property_in s p)) (places_by (step s 0) n at)
+frames_are s n at = ap (write_all property.write) (frames_places s n at) ∙ write_map property.write (property_in s) (places_by (step s 0) n at)
 
 pub run_frames : (s l : List ℕ) (i n : ℕ) → take n (drop i l) ≡ places_by (step s 0) n (get_or l i 0)
     → write_all property.write (frames_in s n (get_or l i 0)) ≡ write_all (λ p. property.write (property_in s p)) (take n (drop i l))
-run_frames s l i n e =
-    ap (write_all property.write) (frames_places s n (get_or l i 0))
-    ∙ write_map property.write (property_in s) (places_by (step s 0) n (get_or l i 0))
-    ∙ ap (write_all (λ p. property.write (property_in s p))) (sym e)
+run_frames s l i n e = frames_are s n (get_or l i 0) ∙ ap (write_all (λ p. property.write (property_in s p))) (sym e)
 
 pub end_fixed : (s : List ℕ) (w n at : ℕ) → 0 < w → end_by (step s w) n at ≡ at + n * w
 unfolding end_by

@@ -28,7 +28,7 @@ use Rattle.vmd_sort.specs.Order.{there}
 use Rattle.vmd_sort.specs.OrderLaws.{there_in}
 use Rattle.vmd_sort.specs.Walk.{step, places_by, end_by, states_there, total}
 use Rattle.vmd_tidy_sections.specs.Sections.{placed, track_of, frame_of, track_at, tidied_places, tidied_rows, tidied_frame_places, tidied_frames}
-use Rattle.vmd_tidy_sections.specs.KindLaws.{kind_some}
+use Rattle.vmd_sort.specs.KindLaws.{kind_some}
 use Rattle.vmd_sort.specs.WalkLaws.{step_past, step_frame, step_fixed, places_lie}
 use Rattle.vmd_tidy_sections.specs.WalkLaws.{write_map, table_places, frames_places}
 

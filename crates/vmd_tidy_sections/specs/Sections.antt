@@ -5,17 +5,35 @@ use Rattle.vmd_format.specs.Layout.{Layout}
 use Rattle.vmd_format.specs.Records.{Property}
 use Rattle.vmd_format.specs.Read.{table}
 use Rattle.vmd_format.specs.Opening.{Extent}
-use Rattle.vmd_laws.specs.PlacesLaws.{frames_in}
+use Rattle.vmd_format.specs.Take.{property}
+use Rattle.vmd_laws.specs.PlacesLaws.{property_in, frames_in}
 use Rattle.vmd_records.specs.declared.VmdKind.{VmdKind}
 use Rattle.vmd_records.specs.declared.VmdKind.TheVariants as kind
 use Rattle.vmd_records.specs.Kinds.{Row, layout, size_of, frame_at}
 use Rattle.vmd_keys.specs.Names.{registration_name, track_in}
 use Rattle.vmd_tracks.specs.Tracks.{lasts, tidy_section, one_track}
 use Rattle.vmd_sort.specs.Walk.{step, places_by}
+use Rattle.vmd_sort.specs.declared.VmdOrder.{VmdOrder}
+use Rattle.vmd_sort.specs.declared.VmdOrder.TheVariants as order
+use Rattle.vmd_sort.specs.declared.VmdStride.{VmdStride}
+use Rattle.vmd_sort.specs.declared.VmdStride.TheVariants as stride
 
 -- the canonical bytes of the record at a place
 abbrev pub placed : {A : Type 0} → Layout A → List ℕ → ℕ → List ℕ
 placed K s p = K.encode (K.decode (drop p s))
+
+-- the same of what stands there, a record or a property frame
+abbrev pub written_at : VmdStride → List ℕ → ℕ → List ℕ
+written_at (stride.Records k) s p = placed (layout k) s p
+written_at stride.PropertyFrames s p = property.write (property_in s p)
+
+-- what tells the records of a kind apart
+abbrev pub order_of : VmdKind → VmdOrder
+order_of kind.Bone = order.NameFrame
+order_of kind.Morph = order.NameFrame
+order_of kind.Camera = order.Frame
+order_of kind.Light = order.Frame
+order_of kind.SelfShadow = order.Frame
 
 -- what a record's track is told by, and its frame
 abbrev pub track_of : (k : VmdKind) → Row k → List ℕ

@@ -21,12 +21,10 @@ use Rattle.vmd_bytes.specs.Slices.{splice, run}
 use Rattle.vmd_bytes.proofs.Laws.{part_cons}
 use Rattle.vmd_bytes.specs.Written.{Room, Wrote}
 use Rattle.vmd_bytes.proofs.Writes.{less_one, Filling, filling_start, filling_turn, filling_end}
-use Rattle.vmd_check_tables.specs.Meaning.{table_of}
 use Rattle.vmd_check_columns.specs.Meaning.{bits}
 use Rattle.vmd_check_columns.specs.Stages.{bone_right, morph_right}
 use Rattle.vmd_write_columns.specs.Stages.{BoneThere, bone_bytes, BonesFit, bone_of, MorphsFit, morph_of}
 use Rattle.vmd_check_columns.proofs.Columns.{bits_at}
-use Rattle.vmd_write_columns.proofs.Names.{Named, named_from}
 
 -- ---- what the checks say of an index
 
@@ -73,14 +71,6 @@ module _ {t : NameTable} {x f : List ℕ} (w : List Float) (g : MorphsFit t x f 
   unfolding morph_right
   morph_finite k = rw (bits_at w i k) at (need_passes _ not_finite (next_passes morph_here).1)
 
-pub bone_named : {s l x f u r a : List ℕ} {start : ℕ} → BonesFit (table_of s l) x f u r a → (i : ℕ) → i < length x → start ≡ get_or {A = ℕ} (0 ∷ l) (get_or x i 0) 0
-    → Named s l (get_or x i 0) start
-bone_named {s} {l} {x} g i h e = named_from s l (get_or x i 0) g.table g.named (bone_index g i h) e
-
-pub morph_named : {s l x f : List ℕ} {start : ℕ} (w : List Float) → MorphsFit (table_of s l) x f (bits w) → (i : ℕ) → i < length x → start ≡ get_or {A = ℕ} (0 ∷ l) (get_or x i 0) 0
-    → Named s l (get_or x i 0) start
-morph_named {s} {l} {x} w g i h e = named_from s l (get_or x i 0) g.table g.named (morph_index w g i h) e
-
 -- ---- the bytes of a record
 
 three : (l : List ℕ) (k : ℕ) → k + 3 ≤ length l → take 3 (drop k l) ≡ get_or l k 0 ∷ get_or l (k + 1) 0 ∷ get_or l (k + 2) 0 ∷ []
@@ -123,14 +113,13 @@ module _ {A : Type 0} (f : ℕ → A) {n i : ℕ} where
 
 -- what holds before each turn: the records from this index on are left
 pub record Columned {A : Type 0} (e : A → List ℕ) (w : ℕ) (f : ℕ → A) (n : ℕ) (out₀ : List ℕ) (to : ℕ) (out : List ℕ) (i q : ℕ) : Type 0 where
-  pub inside : i ≤ n
   pub fill : Filling e w out₀ to (write_all e (map f (upto 0 n))) out q (n - i) (map f (upto i (n - i)))
 
 module _ {A : Type 0} {e : A → List ℕ} {w : ℕ} {f : ℕ → A} {n : ℕ} {out₀ : List ℕ} {to : ℕ} where
   pub columned_start : ((a : A) → length (e a) ≡ w) → Room out₀ to (write_all e (map f (upto 0 n))) → Columned e w f n out₀ to out₀ 0 to
   columned_start k h =
       let z : map f (upto 0 (n - 0)) ≡ map f (upto 0 n) = ap (λ x. map f (upto 0 x)) (sub-zero n) in
-      record { inside = omega arith; fill = rw z (filling_start (map f (upto 0 n)) k (length-map (upto 0 n) f ∙ upto_length 0 n ∙ sym (sub-zero n)) h) }
+      record { fill = rw z (filling_start (map f (upto 0 n)) k (length-map (upto 0 n) f ∙ upto_length 0 n ∙ sym (sub-zero n)) h) }
 
   module _ {out : List ℕ} {i q : ℕ} (g : Columned e w f n out₀ to out i q) where
     pub columned_room : i < n → q + w ≤ length out
@@ -139,7 +128,7 @@ module _ {A : Type 0} {e : A → List ℕ} {w : ℕ} {f : ℕ → A} {n : ℕ} {
     pub columned_turn : {o v : List ℕ} → i < n → o ≡ splice out q v → v ≡ e (f i) → Columned e w f n out₀ to o (i + 1) (q + w)
     columned_turn h d z =
         let m : n - i - 1 ≡ n - (i + 1) = omega arith in
-        record { inside = omega arith; fill = rw m at (filling_turn g.fill (omega arith) (index_first f h) d z) }
+        record { fill = rw m at (filling_turn g.fill (omega arith) (index_first f h) d z) }
 
     pub columned_end : n ≤ i → Wrote out₀ to (write_all e (map f (upto 0 n))) out q
     columned_end h = filling_end g.fill (index_none f h)

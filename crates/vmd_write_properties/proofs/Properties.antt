@@ -13,9 +13,9 @@ use Rattle.vmd_laws.specs.Places.{Reaches}
 use Rattle.vmd_laws.specs.PlacesLaws.{property_in, frames_in}
 use Rattle.vmd_laws.specs.WalkLaws.{frame_bytes, frame_ends, reaches_first, frames_first, frames_none}
 use Rattle.vmd_bytes.specs.Slices.{splice}
-use Rattle.vmd_bytes.specs.Written.{Room, Wrote, Rest}
+use Rattle.vmd_bytes.specs.Written.{Wrote, Rest}
 use Rattle.vmd_bytes.proofs.Laws.{splice_append_at, splice_snoc_at, length_u32_bytes}
-use Rattle.vmd_bytes.proofs.Writes.{rest_all, first_room, first_then, none_left}
+use Rattle.vmd_bytes.proofs.Writes.{first_room, first_then, none_left}
 
 -- number, flag, count and IK states written one after another
 pub frame_written : {x y o : List ℕ} {m v n r : ℕ} (s l : List ℕ) (at to : ℕ) → to + 9 ≤ length l
@@ -45,10 +45,6 @@ pub record Walking (src l : List ℕ) (to : ℕ) (w x : List ℕ) (p q left : �
   pub rest : Rest l to w x q (write_all property.write (frames_in src left p))
 
 module _ {src l : List ℕ} {to : ℕ} where
-  pub walking_start : {at n : ℕ} → Reaches src n at → Room l to (write_all property.write (frames_in src n at))
-      → Walking src l to (write_all property.write (frames_in src n at)) l at to n
-  walking_start h r = record { reaches = h; rest = rest_all r }
-
   module _ {w x : List ℕ} {p q left : ℕ} (g : Walking src l to w x p q left) where
     module _ (h : 0 < left) where
       pub walking_lies : next_frame src p ≤ length src
@@ -57,9 +53,9 @@ module _ {src l : List ℕ} {to : ℕ} where
       pub walking_room : q + (next_frame src p - p) ≤ length x
       walking_room = omega (arith, (first_room property.write g.rest (frames_first src left p h)).room, frame_ends src p)
 
-      pub walking_turn : {y : List ℕ} {r : ℕ} (k : ℕ) → p + k ≡ next_frame src p → Wrote x q (property.write (property_in src p)) y r
-          → Walking src l to w y (p + k) r (left - 1)
-      walking_turn k e a = rw e (record {
+      pub walking_turn : {y : List ℕ} {r more : ℕ} (k : ℕ) → more ≡ left - 1 → p + k ≡ next_frame src p → Wrote x q (property.write (property_in src p)) y r
+          → Walking src l to w y (p + k) r more
+      walking_turn k m e a = rw (m, e) (record {
         reaches = (reaches_first src left p h g.reaches).1;
         rest = first_then property.write g.rest (frames_first src left p h) a;
       })

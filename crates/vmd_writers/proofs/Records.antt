@@ -1,6 +1,9 @@
 -- Records at a place, as code writes them: one, a loop over many, and a copy in place of the loop. Assumes nothing.
-use Prim.Native.Nat.{ℕ, ◌+◌, ◌-◌, ◌*◌, ◌≤◌, ◌<◌}
-use mathlib.Core.Path.{◌≡◌, refl, ap, sym, ◌∙◌}
+use Prim.Native.Nat.{ℕ, zero, suc, ◌+◌, ◌*◌, ◌≤◌, ◌<◌}
+use Rattle.std.proofs.Common.{add-one, zero-mul}
+use Rattle.std.proofs.Math.Nat.{mul-le-mul_right}
+use Rattle.vmd_laws.specs.ReadLaws.{write_all_append}
+use mathlib.Core.Path.{◌≡◌, ap, sym, ◌∙◌}
 use mathlib.Core.List.{List, [], ◌∷◌, ◌++◌, append-nil}
 use native.Mathlib.Omega.{arith}
 use native.Mathlib.Nat.{add-zero}
@@ -11,12 +14,10 @@ use Rattle.vmd_laws.specs.BytesLaws.{Bytes, bytes_drop}
 use Rattle.vmd_format.specs.Layout.{Layout}
 use Rattle.vmd_format.specs.Read.{table, write_all}
 use Rattle.vmd_laws.specs.Rewriting.{Rewrites}
-use Rattle.vmd_laws.specs.SizedLaws.{Sized, section_length, table_first, table_none, section_stays}
-use Rattle.vmd_laws.specs.PlacesLaws.{table_length}
+use Rattle.vmd_laws.specs.SizedLaws.{Sized, section_length, section_stays}
 use Rattle.vmd_bytes.specs.Slices.{splice, run}
 use Rattle.vmd_bytes.specs.Written.{Room, Wrote}
-use Rattle.vmd_bytes.proofs.Laws.{splice_snoc_at, length_run, name_wider}
-use Rattle.vmd_bytes.proofs.Writes.{less_one, Filling, filling_start, filling_turn, filling_end}
+use Rattle.vmd_bytes.proofs.Laws.{splice_append_at, splice_snoc_at, length_run, name_wider}
 
 -- ---- one record
 
@@ -50,24 +51,35 @@ module _ {A : Type 0} {K : Layout A} (s l : List ℕ) (at to : ℕ) (b : Bytes s
 
 -- ---- records one after another
 
--- What holds before each turn of a loop that writes records of k bytes: those that are left lie in the file, and are to be written here.
-pub record Going {A : Type 0} (K : Layout A) (k : ℕ) (src l : List ℕ) (to : ℕ) (w x : List ℕ) (p q left : ℕ) : Type 0 where
-  pub lie : p + left * k ≤ length src
-  pub fill : Filling K.encode k l to w x q left (table K left (drop p src))
+-- below n, one record more of k bytes still lies among n of them
+pub one_more : {i n : ℕ} (k : ℕ) → i < n → i * k + k ≤ n * k
+one_more {i = i} {n = n} k h = omega (arith, mul-le-mul_right {m = i + 1} {n = n} k (omega arith))
 
-module _ {A : Type 0} {K : Layout A} {k : ℕ} (z : Sized K k) {src l : List ℕ} {to : ℕ} where
-  pub going_start : {at n : ℕ} → at + n * k ≤ length src → Room l to (write_all K.encode (table K n (drop at src)))
-      → Going K k src l to (write_all K.encode (table K n (drop at src))) l at to n
-  going_start {at} {n} h r = record { lie = h; fill = filling_start (table K n (drop at src)) z.wide (table_length K n (drop at src)) r }
+module _ {A : Type 0} {K : Layout A} {k : ℕ} (z : Sized K k) where
+  table_more : (n p : ℕ) (s : List ℕ) → table K (suc n) (drop p s) ≡ table K n (drop p s) ++ (K.decode (drop (p + n * k) s) ∷ [])
+  unfolding table
+  table_more zero p s = rw (zero-mul, add-zero)
+  table_more (suc n) p s =
+      let d : drop K.size (drop p s) ≡ drop (p + k) s = rw (z.size, drop-drop) in
+      let e : p + suc n * k ≡ p + k + n * k = omega arith in
+      rw (d, e, table_more n (p + k) s)
 
-  module _ {w x : List ℕ} {p q left : ℕ} (g : Going K k src l to w x p q left) where
-    pub going_turn : {y : List ℕ} → 0 < left → y ≡ splice x q (K.encode (K.decode (drop p src))) → Going K k src l to w y (p + k) (q + k) (left - 1)
-    going_turn h e =
-        let d : left * k ≡ k + (left - 1) * k = less_one left k h in
-        record { lie = omega (arith, g.lie); fill = filling_turn g.fill h (table_first z left p src h) e refl }
-
-    pub going_end : left ≡ 0 → Wrote l to w x q
-    going_end e = filling_end g.fill (table_none K left (drop p src) e)
+  -- i records of src were written, and then the next one
+  pub each_turn : {x y : List ℕ} (src l : List ℕ) (at to i n : ℕ) → i < n → to + n * k ≤ length l
+      → x ≡ splice l to (write_all K.encode (table K i (drop at src)))
+      → y ≡ splice x (to + i * k) (K.encode (K.decode (drop (at + i * k) src)))
+      → y ≡ splice l to (write_all K.encode (table K (i + 1) (drop at src)))
+  unfolding write_all
+  each_turn src l at to i n h r e f =
+      let w : to + i * k ≤ length l = omega (arith, one_more {i = i} {n = n} k h) in
+      f ∙ rw (
+        e,
+        splice_append_at l to (write_all K.encode (table K i (drop at src))) (K.encode (K.decode (drop (at + i * k) src))) (i * k) (section_length z i (drop at src)) w,
+        add-one,
+        table_more i at src,
+        write_all_append,
+        append-nil,
+      )
 
 pub room_section : {A : Type 0} {K : Layout A} {k : ℕ} (z : Sized K k) (n : ℕ) (s l : List ℕ) {to : ℕ} → to + n * k ≤ length l
     → Room l to (write_all K.encode (table K n s))

@@ -11,7 +11,7 @@ pub returns-in-Ok-eq0 : goal.returns-in-Ok-eq0
 returns-in-Ok-eq0 g c =
     let read = c.in-Ok-eq0.ensures.bytes in
     let left = read_none _ _ _ _ c.in-Ok-eq0.field-0 c.read.new.buf (search rules) c.loop.invariant.1 read.0 in
-    λ _. all_read _ _ _ left (read.1 (search rules) (search rules))
+    all_read _ _ _ left (read.1 (search rules) (search rules))
 
 pub loop-preserved : goal.loop-preserved
 loop-preserved g c =

@@ -4,10 +4,10 @@ use borrow.Author.Tests.{lt-leb}
 use Rattle.vmd_format.specs.Characters.{between}
 use Rattle.vmd_bytes.proofs.between.Goals as goal
 
-pub returns-then-b-low : goal.returns-then-b-low
+pub returns-then-low-b : goal.returns-then-low-b
 unfolding between
-returns-then-b-low c = rw (lt-leb c.args.low c.args.b c.if-b-low.true)
+returns-then-low-b c = rw (le-leb c.args.low c.args.b c.if-low-b.true)
 
-pub returns : goal.returns
+pub returns-else-low-b : goal.returns-else-low-b
 unfolding between
-returns c = rw (le-leb c.args.low c.args.b c.if-b-low.false)
+returns-else-low-b c = rw (lt-leb c.args.low c.args.b c.if-low-b.false)

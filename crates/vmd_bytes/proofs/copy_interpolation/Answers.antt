@@ -1,11 +1,15 @@
--- `vmd_bytes::copy_interpolation` meets its contract. Assumes nothing.
-use Rattle.std.proofs.Common.{arith}
-use Rattle.vmd_bytes.proofs.Laws.{copied_on}
+use Rattle.std.proofs.Common.{◌≡◌, ◌+◌, ◌*◌, refl, ◌∙◌, arith}
+use Rattle.vmd_bytes.proofs.Laws.{splice_nil, part_zero, copied_on}
 use Rattle.vmd_bytes.proofs.copy_interpolation.Goals as goal
 
-pub returns : goal.returns
-returns c =
-    let w₂ = c.before.before in
-    let w₁ = w₂.before.before.before.before in
-    let a = w₁.args in
-    copied_on a.src.now a.at a.out.now a.to 32 32 (omega arith) (omega arith) w₁.copy_four_words.ensures w₂.copy_four_words-2.ensures
+pub loop-k-init : goal.loop-k-init
+loop-k-init c = (refl, rw (part_zero, splice_nil))
+
+pub loop-k-preserved : goal.loop-k-preserved
+loop-k-preserved c =
+    let a = c.args in
+    let i = 8 * c.loop-k.k in
+    let e : 8 * (c.loop-k.k + 1) ≡ i + 8 = omega arith in (
+      omega (arith, c.copy_word.auto.out),
+      rw e (c.copy_word.ensures ∙ rw c.loop-k.invariant.1 (copied_on a.src.now a.out.now a.at a.to i 8 (omega arith) (omega arith))),
+    )

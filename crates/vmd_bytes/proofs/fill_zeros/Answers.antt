@@ -1,16 +1,11 @@
-use Rattle.std.proofs.Common.{◌≡◌, refl, arith, length-set}
-use Rattle.vmd_bytes.proofs.Laws.{splice_nil, fill_turn}
+-- `vmd_bytes::fill_zeros` meets its contract. Assumes nothing.
+use Rattle.std.proofs.Common.{ℕ, List, ◌∙◌, ap, arith, length, replicate}
+use lib.ListN.{length-replicate}
+use Rattle.vmd_bytes.proofs.Laws.{put_part, range_part, length_run}
 use Rattle.vmd_bytes.proofs.fill_zeros.Goals as goal
 
-pub loop-i-init : goal.loop-i-init
-loop-i-init c = (omega arith, refl, rw splice_nil)
-
-pub loop-i-preserved : goal.loop-i-preserved
-loop-i-preserved c =
-    (omega arith, simp length-set (omega arith), rw c.loop-i.invariant.2 (fill_turn c.args.out.now c.args.to c.loop-i.i 0 (omega arith)))
-
-pub shape_of-out : goal.shape_of-out
-shape_of-out c = c.loop-i.invariant.1
-
 pub returns : goal.returns
-returns c = let e : c.loop-i.i ≡ c.args.n = omega arith in cc
+returns c =
+    let a = c.args in
+    let long = ap (λ (l : List ℕ). replicate {A = ℕ} (length l) 0) (range_part a.out.now a.to a.n) ∙ ap (λ (k : ℕ). replicate {A = ℕ} k 0) (length_run a.out.now a.to a.n (omega arith)) in
+    rw (c.fill.ensures.after (λ y h. h), long) (put_part a.out.now _ a.to a.n (length-replicate a.n 0))

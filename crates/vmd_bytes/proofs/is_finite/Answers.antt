@@ -1,10 +1,7 @@
--- `vmd_bytes::is_finite` meets its contract: only a NaN differs from itself, and any other float has its bits. Assumes nothing.
-use Rattle.std.proofs.Common.{sym}
-use Rattle.vmd_bytes.proofs.Floats.{differs_not_finite, alike_no_nan}
+-- `vmd_bytes::is_finite` meets its contract: a NaN is told, and any other float has its bits. Assumes nothing.
+use Rattle.std.proofs.Common.{sym, ◌∙◌}
+use Rattle.vmd_bytes.proofs.Floats.{nan_none_finite}
 use Rattle.vmd_bytes.proofs.is_finite.Goals as goal
 
-pub returns-then-x : goal.returns-then-x
-returns-then-x c = sym (differs_not_finite c.args.x c.if-x.true)
-
-pub float_to_bits-x : goal.float_to_bits-x
-float_to_bits-x c = alike_no_nan c.args.x c.if-x.false
+pub returns-else-not-is_nan : goal.returns-else-not-is_nan
+returns-else-not-is_nan c = rw c.if-not-is_nan.false (nan_none_finite c.args.x (sym c.is_nan.ensures.value ∙ c.if-not-is_nan.false))

@@ -4,6 +4,4 @@ use Rattle.vmd_bytes.proofs.Words.{mask_of}
 use Rattle.vmd_bytes.proofs.mask.Goals as goal
 
 pub returns : goal.returns
-returns c =
-    mask_of c.args.m c.wrapping_sub_u64.result c.args.live (omega arith)
-    (rw c.one_if.ensures at c.wrapping_sub_u64.ensures.value)
+returns c = rw c.from.ensures (mask_of c.args.m c.args.live (omega arith))

@@ -1,33 +1,30 @@
-use Rattle.std.proofs.Common.{true, sym, refl, ◌∙◌, arith}
+use Rattle.std.proofs.Common.{◌≡◌, ◌+◌, ◌*◌, ◌/◌, true, sym, refl, ◌∙◌, arith}
 use Rattle.vmd_bytes.proofs.Laws.{name_start, live_start, name_turn, live_turn, name_whole}
 use Rattle.vmd_bytes.proofs.write_name.Goals as goal
 
-pub loop-i-init : goal.loop-i-init
-loop-i-init c = (omega arith, refl, sym (live_start _ _ true), sym (name_start _ _ _ _ true))
+pub loop-k-init : goal.loop-k-init
+loop-k-init c = (refl, sym (live_start _ _ true), sym (name_start _ _ _ _ true))
 
-pub loop-i-preserved : goal.loop-i-preserved
-loop-i-preserved c =
-    let put = c.before.before.before in
-    let word = put.before.before.before in
-    let at-loop = word.before.before in
-    let s = at-loop.args in (
-      omega arith,
-      omega (arith, put.put_word.auto.out),
-      c.live_after_word-live.ensures ∙ rw (word.word_at-x.ensures, at-loop.loop-i.invariant.2) (live_turn s.src.now s.at at-loop.loop-i.i 8 true),
-      put.put_word.ensures
-          ∙ rw (put.canonical_word.ensures, word.word_at-x.ensures, at-loop.loop-i.invariant.2, at-loop.loop-i.invariant.3)
-          (name_turn s.src.now s.out.now s.at s.to at-loop.loop-i.i 8 true (omega arith) (omega arith)),
+pub loop-k-preserved : goal.loop-k-preserved
+loop-k-preserved c =
+    let s = c.args in
+    let h = c.loop-k.invariant in
+    let i = 8 * c.loop-k.k in
+    let e : 8 * (c.loop-k.k + 1) ≡ i + 8 = omega arith in (
+      omega (arith, c.put_word.auto.out),
+      rw e (c.live_after_word-live.ensures ∙ rw (c.word_at-x.ensures, h.1) (live_turn s.src.now s.at i 8 true)),
+      rw e (
+          c.put_word.ensures
+          ∙ rw (c.canonical_word.ensures, c.word_at-x.ensures, h.1, h.2)
+          (name_turn s.src.now s.out.now s.at s.to i 8 true (omega arith) (omega arith))
+          ),
     )
-
-pub shape_of-out : goal.shape_of-out
-shape_of-out c = omega (arith, c.write_name_end.auto.out)
 
 pub returns : goal.returns
 returns c =
-    let at-loop = c.before.before.before.before.before in
-    let s = at-loop.args in
-    rw (
-      ← name_whole s.src.now s.out.now s.at s.to at-loop.loop-i.i s.width (omega arith) (omega arith) (omega arith),
-      ← at-loop.loop-i.invariant.3,
-      ← at-loop.loop-i.invariant.2,
-    ) c.write_name_end.ensures
+    let s = c.args in
+    let i = 8 * (s.width / 8) in
+    let e : 8 * c.loop-k.k ≡ i = omega arith in
+    let live = rw e at c.loop-k.invariant.1 in
+    let out = rw e at c.loop-k.invariant.2 in
+    c.write_name_end.ensures ∙ rw (out, live) (name_whole s.src.now s.out.now s.at s.to i s.width (omega arith) (omega arith) (omega arith))

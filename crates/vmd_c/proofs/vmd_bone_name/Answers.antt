@@ -7,4 +7,4 @@ use Rattle.vmd_c.proofs.vmd_bone_name.Goals as goal
 
 pub returns : goal.returns
 returns c =
-    c.part_words.ensures ∙ ap part_words (field_part_at bone 111 (λ x. x.name) 0 (λ x. x.bones) _ _ c.opening_of.ensures c.bone_name_part.ensures)
+    c.slot.ensures ∙ ap part_words (field_part_at bone 111 (λ x. x.name) 0 (λ x. x.bones) _ _ c.opening_of.ensures c.bone_name_part.ensures)

@@ -7,4 +7,4 @@ use Rattle.vmd_c.proofs.vmd_camera_interpolation.Goals as goal
 
 pub returns : goal.returns
 returns c =
-    c.part_words.ensures ∙ ap part_words (field_part_at camera 61 (λ x. x.interpolation) 32 (λ x. x.cameras) _ _ c.opening_of.ensures c.camera_interpolation_part.ensures)
+    c.slot.ensures ∙ ap part_words (field_part_at camera 61 (λ x. x.interpolation) 32 (λ x. x.cameras) _ _ c.opening_of.ensures c.camera_interpolation_part.ensures)

@@ -6,4 +6,4 @@ use Rattle.vmd_c.proofs.vmd_ik_name.Goals as goal
 
 pub returns : goal.returns
 returns c =
-    c.part_words.ensures ∙ ap part_words (ik_part_at _ _ _ _ c.opening_of.ensures c.ik_name_part.ensures)
+    c.slot.ensures ∙ ap part_words (ik_part_at _ _ _ _ c.opening_of.ensures c.ik_name_part.ensures)

@@ -7,4 +7,4 @@ use Rattle.vmd_c.proofs.vmd_morph_name.Goals as goal
 
 pub returns : goal.returns
 returns c =
-    c.part_words.ensures ∙ ap part_words (field_part_at morph 23 (λ x. x.name) 0 (λ x. x.morphs) _ _ c.opening_of.ensures c.morph_name_part.ensures)
+    c.slot.ensures ∙ ap part_words (field_part_at morph 23 (λ x. x.name) 0 (λ x. x.morphs) _ _ c.opening_of.ensures c.morph_name_part.ensures)

@@ -1,21 +1,22 @@
 -- `vmd_c::vmd_property_frame_at` meets its contract. Assumes nothing.
-use mathlib.Core.Path.{refl, ap}
+use mathlib.Core.Path.{refl, ap, ◌∙◌}
+use Rattle.vmd_base.specs.Meaning.{answer_of}
 use Rattle.vmd_records.specs.Fields.{property_fields}
-use Rattle.vmd_reader.specs.Meaning.{step_fields, step_answer}
-use Rattle.vmd_slots.specs.Meaning.{property_words}
+use Rattle.vmd_reader.specs.Meaning.{step_fields}
+use Rattle.vmd_slots.specs.Meaning.{property_words, property_slot}
 use Rattle.vmd_slots.proofs.Laws.{status_declined, status_given, slot_declined, slot_filled, told, arrived}
 use Rattle.vmd_c.proofs.vmd_property_frame_at.Goals as goal
 
-pub returns-in-Refused : goal.returns-in-Refused
-returns-in-Refused c =
-    let e = told step_fields refl c.property_frame_at.ensures (ap step_answer c.in-Refused.is) in
+pub returns-in-Err : goal.returns-in-Err
+returns-in-Err c =
+    let e = told step_fields refl c.property_frame_at.ensures (ap answer_of c.in-Err.is) in
     (status_declined e c.number.ensures, slot_declined _ _ e, slot_declined _ _ e)
 
-pub returns-in-Found : goal.returns-in-Found
+pub returns-in-Ok : goal.returns-in-Ok
 unfolding property_words property_fields
-returns-in-Found c =
-    let r = arrived step_fields refl c.property_frame_at.ensures (ap step_answer c.in-Found.is) in (
+returns-in-Ok c =
+    let r = arrived step_fields refl c.property_frame_at.ensures (ap answer_of c.in-Ok.is) in (
       status_given r.is,
-      slot_filled _ _ r (λ v z. rw (c.property_words.ensures, ap (λ p. p.0) z)),
+      slot_filled _ _ r (λ v z. c.slot.ensures ∙ ap (λ p. property_slot p.0) z),
       slot_filled _ _ r (λ v z. ap (λ p. p.1) z),
     )

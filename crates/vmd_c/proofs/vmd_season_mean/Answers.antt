@@ -8,4 +8,4 @@ use Rattle.vmd_c.proofs.vmd_season_mean.Goals as goal
 pub returns : goal.returns
 unfolding mean_words
 returns c =
-    ap mean_words (c.mean-m.ensures ∙ ap mean c.season_of.ensures ∙ mean_without _ _)
+    c.slot.ensures ∙ ap mean_words (c.mean-m.ensures ∙ ap mean c.season_of.ensures ∙ mean_without _ _)

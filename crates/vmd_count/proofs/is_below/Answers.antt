@@ -1,17 +1,14 @@
 -- `vmd_count::is_below` meets its contract. Assumes nothing.
-use native.Mathlib.Omega.{arith}
-use Rattle.vmd_keys.proofs.KeyLaws.{key_top}
-use Rattle.vmd_keys.specs.Keys.{key}
-use Rattle.vmd_count.proofs.HeldLaws.{below_none, below_some}
+use mathlib.Core.Path.{refl}
+use Rattle.vmd_keys.proofs.RowLaws.{row_top}
+use Rattle.vmd_keys.specs.Rowed.{row_key}
+use Rattle.vmd_count.proofs.HeldLaws.{below_none, below_record}
 use Rattle.vmd_count.proofs.is_below.Goals as goal
 
-pub returns-then-ceil-eq0 : goal.returns-then-ceil-eq0
-returns-then-ceil-eq0 c =
-    let a = c.args in
-    below_none (key a.cut a.s.now a.at a.size a.n) a.ceil a.x
-    (key_top a.cut a.s.now a.at a.size a.n (λ k. omega (arith, c.shared_slice_known-1.given k)) a.x) c.if-ceil-eq0.true
+pub returns-in-None : goal.returns-in-None
+returns-in-None c =
+    let r = c.args.rows in rw c.in-None.is (below_none (row_key r) 0 c.args.x (row_top r c.args.x) refl)
 
-pub returns : goal.returns
-returns c =
-    let a = c.args in
-    below_some (key a.cut a.s.now a.at a.size a.n) a.ceil a.x _ c.if-ceil-eq0.false c.name_before.ensures
+pub returns-in-Some : goal.returns-in-Some
+returns-in-Some c =
+    rw c.in-Some.is (below_record (row_key c.args.rows) c.in-Some.c c.args.x _ c.name_before.ensures)

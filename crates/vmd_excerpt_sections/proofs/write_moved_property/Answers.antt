@@ -22,10 +22,6 @@ write_properties-end-requires c =
     let e = frame_one c.args.s.now c.args.at in
     ((c.requires.0, tt), record { room = rw e (omega (arith, c.requires.2.room, property_wide c.args.first (property_in c.args.s.now c.args.at))) })
 
-pub overflow_sub-frame : goal.overflow_sub-frame
-overflow_sub-frame c =
-    omega (arith, c.read_u32_le-frame.ensures, c.requires.1)
-
 pub write_u32_le-requires : goal.write_u32_le-requires
 unfolding next_frame
 write_u32_le-requires c =

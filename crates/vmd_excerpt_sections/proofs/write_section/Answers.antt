@@ -6,22 +6,17 @@ use Rattle.vmd_excerpt_sections.specs.RowLaws.{counted_room, counted_length, cou
 use Rattle.vmd_excerpt_sections.specs.Rows.{kept_rows}
 use Rattle.vmd_excerpt_sections.proofs.write_section.Goals as goal
 
-pub overflow_add-to : goal.overflow_add-to
+pub write_kept-written-requires : goal.write_kept-written-requires
 unfolding fixed
-overflow_add-to c =
-    omega (arith, (counted_room (fixed (layout c.args.kind)) (kept_rows c.args.kind c.args.first c.args.last c.args.s.now c.args.x.count c.args.x.place) c.requires.1).room)
-
-pub write_kept-records-requires : goal.write_kept-records-requires
-unfolding fixed
-write_kept-records-requires c =
-    (c.requires.0, counted_room (fixed (layout c.args.kind)) (kept_rows c.args.kind c.args.first c.args.last c.args.s.now c.args.x.count c.args.x.place) c.requires.1)
+write_kept-written-requires c =
+    counted_room (fixed (layout c.args.records.kind)) (kept_rows c.args.records.kind c.args.span.first c.args.span.last c.args.records.file.now c.args.records.section.count c.args.records.section.place) c.requires
 
 pub write_u32_le-requires : goal.write_u32_le-requires
 unfolding fixed
 write_u32_le-requires c =
-    omega (arith, counted_length (fixed (layout c.args.kind)) (kept_rows c.args.kind c.args.first c.args.last c.args.s.now c.args.x.count c.args.x.place) c.requires.1 c.write_kept-records.ensures.0, (counted_room (fixed (layout c.args.kind)) (kept_rows c.args.kind c.args.first c.args.last c.args.s.now c.args.x.count c.args.x.place) c.requires.1).room)
+    omega (arith, counted_length (fixed (layout c.args.records.kind)) (kept_rows c.args.records.kind c.args.span.first c.args.span.last c.args.records.file.now c.args.records.section.count c.args.records.section.place) c.requires c.write_kept-written.ensures.0, (counted_room (fixed (layout c.args.records.kind)) (kept_rows c.args.records.kind c.args.span.first c.args.span.last c.args.records.file.now c.args.records.section.count c.args.records.section.place) c.requires).room)
 
 pub returns : goal.returns
 unfolding fixed
 returns c =
-    counted_written (fixed (layout c.args.kind)) (kept_rows c.args.kind c.args.first c.args.last c.args.s.now c.args.x.count c.args.x.place) c.requires.1 c.write_kept-records.ensures.0 c.write_kept-records.ensures.1 c.write_u32_le.ensures
+    counted_written (fixed (layout c.args.records.kind)) (kept_rows c.args.records.kind c.args.span.first c.args.span.last c.args.records.file.now c.args.records.section.count c.args.records.section.place) c.requires c.write_kept-written.ensures.0 c.write_kept-written.ensures.1 c.write_u32_le.ensures

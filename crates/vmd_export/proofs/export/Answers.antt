@@ -1,19 +1,19 @@
 -- `vmd_export::export` meets its contract. Assumes nothing.
-use native.Mathlib.Omega.{arith}
-use Rattle.vmd_output.proofs.Saves.{heard, same_saved, saves_nothing}
-use Rattle.vmd_scan.specs.Meaning.{scan_is, scan_answer}
-use Rattle.vmd_export.proofs.Laws.{export_refused, export_both, export_given}
-use Rattle.vmd_export.specs.Together.{no_scan, Sums}
+use mathlib.Core.Path.{sym, ◌∙◌}
+use Rattle.vmd_output.proofs.Saves.{same_saved, saves_nothing}
+use Rattle.vmd_base.proofs.Refused.{handed_on}
+use Rattle.vmd_export.proofs.Laws.{export_refused, export_given}
 use Rattle.vmd_export.proofs.export.Goals as goal
 
-pub write_take-requires : goal.write_take-requires
-unfolding no_scan
-write_take-requires c =
-    let h : Sums (scan_is c.in-Scanned.a) no_scan = omega arith in
-    export_both _ _ _ _ _ (heard scan_answer c.scan_fitting.ensures c.in-Scanned.is) c.no_sections.ensures h
+pub returns-in_err-take : goal.returns-in_err-take
+returns-in_err-take c =
+    let whole = saves_nothing _ _ _ (export_refused _ _ _ _ (sym c.in_err-take.ensures.found)) in
+    record { result_value = handed_on _ _ _ c.from_residual.ensures.1 ∙ whole.0; out_after = whole.1 }
 
-pub returns-in-Refused : goal.returns-in-Refused
-returns-in-Refused c = let whole = saves_nothing _ _ _ (export_refused _ _ _ _ (heard scan_answer c.scan_fitting.ensures c.in-Refused.is)) in record { result_value = whole.0; out_after = whole.1 }
-
-pub returns-in-Scanned : goal.returns-in-Scanned
-returns-in-Scanned c = let whole = same_saved _ (export_given _ _ _ _ _ (heard scan_answer c.scan_fitting.ensures c.in-Scanned.is) c.no_sections.ensures _ c.model_name.ensures) (c.write_take.ensures.result_value, c.write_take.ensures.out_after) in record { result_value = whole.0; out_after = whole.1 }
+pub returns : goal.returns
+returns c =
+    let t = c.in_ok-take.ensures in
+    let a = c.alone.ensures in
+    let w = c.write_take.ensures in
+    let whole = same_saved _ (export_given _ _ _ _ (sym t.found)) (rw (c.model_name.ensures, a.0, a.1 ∙ t.same, a.2, a.3 ∙ t.same) at w.result_value, rw (c.model_name.ensures, a.0, a.1 ∙ t.same, a.2, a.3 ∙ t.same) at w.out_after) in
+    record { result_value = whole.0; out_after = whole.1 }

@@ -10,22 +10,19 @@ pub returns-then-field-i-eq0 : goal.returns-then-field-i-eq0
 returns-then-field-i-eq0 c =
     field_zero c.args.field.now c.loop-i.i c.loop-i.invariant.1 (omega arith) c.if-field-i-eq0.true
 
-pub unit_at-passed-requires : goal.unit_at-passed-requires
-unit_at-passed-requires c = record { presence = c.requires; at_in_bounds = omega arith }
-
-pub returns-then-passed-eq0 : goal.returns-then-passed-eq0
-returns-then-passed-eq0 c =
-    field_faulty c.args.field.now c.loop-i.i c.loop-i.invariant.1 (omega arith) c.if-field-i-eq0.false c.unit_at-passed.ensures c.if-passed-eq0.true
+pub returns-in_default : goal.returns-in_default
+returns-in_default c =
+    field_faulty c.args.field.now c.loop-i.i c.loop-i.invariant.1 (omega arith) c.if-field-i-eq0.false c.in_default.ensures
 
 pub overflow_add-i : goal.overflow_add-i
 overflow_add-i c =
-    omega (arith, unit_within c.args.field.now c.loop-i.i c.unit_at-passed.ensures c.loop-i.invariant.0)
+    omega (arith, unit_within c.args.field.now c.loop-i.i c.in-Some.ensures.1 c.loop-i.invariant.0)
 
 pub loop-i-preserved : goal.loop-i-preserved
 loop-i-preserved c =
     let s = c.args.field.now in (
-      omega (arith, unit_within s c.loop-i.i c.unit_at-passed.ensures c.loop-i.invariant.0),
-      field_turn s c.loop-i.i c.loop-i.invariant.1 (omega arith) c.if-field-i-eq0.false c.unit_at-passed.ensures (omega arith),
+      omega (arith, unit_within s c.loop-i.i c.in-Some.ensures.1 c.loop-i.invariant.0),
+      field_turn s c.loop-i.i c.loop-i.invariant.1 (omega arith) c.if-field-i-eq0.false c.in-Some.ensures.1 c.in-Some.ensures.0,
     )
 
 pub returns : goal.returns

@@ -7,6 +7,6 @@ pub returns-then-b-le128 : goal.returns-then-b-le128
 unfolding single
 returns-then-b-le128 c = rw (le-leb c.args.b 128 c.if-b-le128.true)
 
-pub returns : goal.returns
+pub returns-else-b-le128 : goal.returns-else-b-le128
 unfolding single
-returns c = rw (lt-leb c.args.b 128 c.if-b-le128.false) c.between.ensures
+returns-else-b-le128 c = rw (lt-leb c.args.b 128 c.if-b-le128.false) c.between.ensures

@@ -1,18 +1,16 @@
 -- `vmd_names::name_check` meets its contract. Assumes nothing.
 use native.Mathlib.Omega.{arith}
-use Rattle.vmd_names.proofs.Names.{name_long, name_zero, name_good, name_bad}
+use Rattle.vmd_names.proofs.Names.{name_long, name_zero, name_rest}
 use Rattle.vmd_names.proofs.name_check.Goals as goal
+use Rattle.vmd_names.proofs.name_check.Goals.{then-width-bytes-via-then-width-bytes, then-width-bytes-via-else-width-bytes+then-trim_fixed_bytes-bytes}
 
-pub returns-then-width-n : goal.returns-then-width-n
-returns-then-width-n c = name_long _ _ (omega arith)
-
-pub returns-then-name-n : goal.returns-then-name-n
-returns-then-name-n c = name_zero _ _ (omega arith) c.trim_fixed_bytes-name.ensures c.if-name-n.true
-
-pub returns-then-good_name : goal.returns-then-good_name
-returns-then-good_name c =
-    name_good _ _ (omega arith) c.trim_fixed_bytes-name.ensures c.if-name-n.false c.good_name.ensures c.if-good_name.true
+pub returns-then-width-bytes : goal.returns-then-width-bytes
+returns-then-width-bytes c =
+    elim c.then-width-bytes.branch [
+      | then-width-bytes-via-then-width-bytes w ↦ name_long _ _ (omega arith)
+      | then-width-bytes-via-else-width-bytes+then-trim_fixed_bytes-bytes w ↦ name_zero _ _ (omega arith) w.trim_fixed_bytes.ensures w.if-trim_fixed_bytes-bytes.true
+    ]
 
 pub returns : goal.returns
 returns c =
-    name_bad _ _ (omega arith) c.trim_fixed_bytes-name.ensures c.if-name-n.false c.good_name.ensures c.if-good_name.false
+    name_rest _ _ (omega arith) c.trim_fixed_bytes.ensures c.if-trim_fixed_bytes-bytes.false c.fault_by.ensures c.need.ensures

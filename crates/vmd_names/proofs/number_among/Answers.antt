@@ -1,21 +1,18 @@
 -- `vmd_names::number_among` meets its contract. Assumes nothing.
 use native.Mathlib.Omega.{arith}
-use Rattle.vmd_names.proofs.Names.{below_all, in_lower, in_gap, in_upper, above_all}
+use Rattle.vmd_names.proofs.Names.{between_holds, in_lower, in_upper}
 use Rattle.vmd_names.proofs.number_among.Goals as goal
 
-pub returns-then-b-low : goal.returns-then-b-low
-returns-then-b-low c = below_all _ _ _ _ _ _ c.requires.1 c.if-b-low.true (omega arith)
+pub overflow_sub-result : goal.overflow_sub-result
+overflow_sub-result c = (between_holds _ _ _ c.between.ensures c.if-between.true).0
 
-pub returns-then-b-end : goal.returns-then-b-end
-returns-then-b-end c = in_lower _ _ _ _ _ _ c.requires.1 c.if-b-low.false c.if-b-end.true
+pub overflow_sub-result-then-between-2 : goal.overflow_sub-result-then-between-2
+overflow_sub-result-then-between-2 c =
+    omega (arith, between_holds _ _ _ c.between-else-between.ensures c.if-between-2.true)
 
-pub returns-then-b-gap : goal.returns-then-b-gap
-returns-then-b-gap c = in_gap _ _ _ _ _ _ c.requires.1 c.if-b-low.false c.if-b-end.false c.if-b-gap.true
+pub returns-then-between : goal.returns-then-between
+returns-then-between c = in_lower _ _ _ _ _ _ c.between.ensures c.requires.0 c.if-between.true
 
-pub returns-then-b-last : goal.returns-then-b-last
-returns-then-b-last c =
-    in_upper _ _ _ _ _ _ c.requires.1 c.if-b-low.false c.if-b-end.false c.if-b-gap.false c.if-b-last.true
-
-pub returns : goal.returns
-returns c =
-    above_all _ _ _ _ _ _ c.requires.1 c.if-b-low.false c.if-b-end.false c.if-b-gap.false c.if-b-last.false
+pub returns-then-between-2 : goal.returns-then-between-2
+returns-then-between-2 c =
+    in_upper _ _ _ _ _ _ c.between.ensures c.between-else-between.ensures c.if-between.false c.if-between-2.true

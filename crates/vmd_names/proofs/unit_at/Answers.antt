@@ -6,19 +6,19 @@ use Rattle.vmd_names.proofs.unit_at.Goals as goal
 pub returns-then-is_single : goal.returns-then-is_single
 returns-then-is_single c =
     let s = c.args in
-    single_there s.bytes.now s.at (omega arith) c.is_single.ensures c.if-is_single.true
+    (omega arith, single_there s.bytes.now s.at c.is_single.ensures c.requires c.if-is_single.true)
 
 pub returns-then-bytes-at-lt2 : goal.returns-then-bytes-at-lt2
 returns-then-bytes-at-lt2 c =
     let s = c.args in
-    last_there s.bytes.now s.at (omega arith) c.is_single.ensures c.if-is_single.false
+    last_there s.bytes.now s.at c.is_single.ensures (omega arith) c.if-is_single.false
 
 pub returns-then-is_pair : goal.returns-then-is_pair
 returns-then-is_pair c =
     let s = c.args in
-    pair_there s.bytes.now s.at (omega arith) c.is_single.ensures c.if-is_single.false c.is_pair.ensures c.if-is_pair.true
+    (omega arith, pair_there s.bytes.now s.at c.is_single.ensures (omega arith) c.if-is_single.false c.is_pair.ensures c.if-is_pair.true)
 
-pub returns : goal.returns
-returns c =
+pub returns-else-is_pair : goal.returns-else-is_pair
+returns-else-is_pair c =
     let s = c.args in
-    none_there s.bytes.now s.at (omega arith) c.is_single.ensures c.if-is_single.false c.is_pair.ensures c.if-is_pair.false
+    none_there s.bytes.now s.at c.is_single.ensures (omega arith) c.if-is_single.false c.is_pair.ensures c.if-is_pair.false

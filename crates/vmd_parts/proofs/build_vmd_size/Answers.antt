@@ -1,15 +1,15 @@
 -- `vmd_parts::build_vmd_size` meets its contract. Assumes nothing.
-use Rattle.vmd_output.proofs.Saves.{heard}
-use Rattle.vmd_names.specs.Meaning.{check_of}
+use mathlib.Core.Path.{sym, ◌∙◌}
+use Rattle.vmd_base.proofs.Refused.{handed_on}
 use Rattle.vmd_parts.proofs.Size.{checked, small, refused_built, sized_built}
 use Rattle.vmd_parts.proofs.build_vmd_size.Goals as goal
 
 pub parts_size-requires : goal.parts_size-requires
-parts_size-requires c = small _ (checked _ (heard check_of c.parts_check.ensures c.in-Passes.is))
+parts_size-requires c = small _ (checked _ (sym c.in_ok-parts_check.ensures))
 
-pub returns-in-Fails : goal.returns-in-Fails
-returns-in-Fails c = refused_built _ _ (heard check_of c.parts_check.ensures c.in-Fails.is)
+pub returns-in_err-parts_check : goal.returns-in_err-parts_check
+returns-in_err-parts_check c =
+    handed_on _ _ _ c.from_residual.ensures.1 ∙ refused_built _ _ (sym c.in_err-parts_check.ensures)
 
-pub returns-in-Passes : goal.returns-in-Passes
-returns-in-Passes c =
-    sized_built _ _ (heard check_of c.parts_check.ensures c.in-Passes.is) c.parts_size.ensures
+pub returns : goal.returns
+returns c = sized_built _ _ (sym c.in_ok-parts_check.ensures) c.parts_size.ensures

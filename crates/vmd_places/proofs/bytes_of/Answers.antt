@@ -9,14 +9,14 @@ use Rattle.vmd_places.proofs.bytes_of.Goals as goal
 
 pub overflow_add-at : goal.overflow_add-at
 overflow_add-at c =
-    omega (arith, rw c.in-At.is at c.requires)
+    omega (arith, rw c.in-Ok.is at c.requires)
 
-pub returns-in-Refused : goal.returns-in-Refused
+pub returns-in-Err : goal.returns-in-Err
 unfolding part_in
-returns-in-Refused c = rw c.in-Refused.is refl
+returns-in-Err c = rw c.in-Err.is refl
 
-pub returns-in-At : goal.returns-in-At
+pub returns-in-Ok : goal.returns-in-Ok
 unfolding part_in there map_answer or_empty
-returns-in-At c =
-    let h = rw c.in-At.is at c.requires in
-    rw (c.in-At.is, bytes_length c.args.file.now _ c.args.n h) c.file_part.ensures
+returns-in-Ok c =
+    let h = rw c.in-Ok.is at c.requires in
+    rw (c.in-Ok.is, bytes_length c.args.file.now _ c.args.n h) c.file_part.ensures

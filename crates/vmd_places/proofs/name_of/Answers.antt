@@ -8,13 +8,13 @@ use Rattle.vmd_places.proofs.name_of.Goals as goal
 
 pub name_at-requires : goal.name_at-requires
 name_at-requires c =
-    rw c.in-At.is at c.requires
+    rw c.in-Ok.is at c.requires
 
-pub returns-in-Refused : goal.returns-in-Refused
+pub returns-in-Err : goal.returns-in-Err
 unfolding part_in
-returns-in-Refused c = rw c.in-Refused.is refl
+returns-in-Err c = rw c.in-Err.is refl
 
-pub returns-in-At : goal.returns-in-At
+pub returns-in-Ok : goal.returns-in-Ok
 unfolding part_in there map_answer or_empty
-returns-in-At c =
-    rw (c.in-At.is, add-zero c.in-At.at) c.name_at.ensures
+returns-in-Ok c =
+    rw (c.in-Ok.is, add-zero c.in-Ok.at) c.name_at.ensures

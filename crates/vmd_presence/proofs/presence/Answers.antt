@@ -4,6 +4,6 @@ use Rattle.vmd_format.specs.Characters.{between, runs, in_runs, in_index}
 use Rattle.vmd_presence.proofs.Table.{right}
 use Rattle.vmd_presence.proofs.presence.Goals as goal
 
-pub returns : goal.returns
+pub invariant_of-result : goal.invariant_of-result
 unfolding between runs in_runs in_index
-returns c = right refl tt
+invariant_of-result c = record { right = right refl tt }

@@ -1,11 +1,6 @@
 -- `vmd_reader::bone_name_part` meets its contract. Assumes nothing.
-use native.Mathlib.Omega.{arith}
-use Rattle.vmd_places.proofs.Places.{record_holds, name_holds}
 use Rattle.vmd_places.proofs.Fields.{bone_name, field_there}
 use Rattle.vmd_reader.proofs.bone_name_part.Goals as goal
 
-pub name_of-requires : goal.name_of-requires
-name_of-requires c = name_holds c.args.file.now c.place_of-place.ensures (record_holds 111 _ _ _) 15 (omega arith)
-
 pub returns : goal.returns
-returns c = rw (field_there bone_name _ _ _, ← c.place_of-place.ensures) c.name_of.ensures
+returns c = rw (field_there bone_name _ _ _) c.name_part.ensures

@@ -1,13 +1,11 @@
 -- `vmd_reader::property_frame_at` meets its contract. Assumes nothing.
-use mathlib.Core.Path.{sym, ap, ◌∙◌}
-use Rattle.vmd_places.specs.Meaning.{place_answer}
+use mathlib.Core.Path.{sym, ◌∙◌}
+use Rattle.vmd_base.proofs.Refused.{handed_on}
 use Rattle.vmd_reader.proofs.Laws.{step_refused, step_found}
 use Rattle.vmd_reader.proofs.property_frame_at.Goals as goal
 
-pub returns-in-Refused : goal.returns-in-Refused
-returns-in-Refused c =
-    step_refused _ _ _ (sym c.next_place.ensures ∙ ap place_answer c.in-Refused.is)
+pub returns-in_err-next : goal.returns-in_err-next
+returns-in_err-next c = handed_on _ _ _ c.from_residual.ensures.1 ∙ step_refused _ _ _ (sym c.in_err-next.ensures)
 
-pub returns-in-At : goal.returns-in-At
-returns-in-At c =
-    step_found _ _ _ _ _ (sym c.next_place.ensures ∙ ap place_answer c.in-At.is) c.bytes_from.ensures c.from_bytes.ensures
+pub returns : goal.returns
+returns c = step_found _ _ _ _ _ (sym c.in_ok-next.ensures) c.bytes_from.ensures c.from_bytes-frame.ensures

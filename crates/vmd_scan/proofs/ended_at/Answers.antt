@@ -7,10 +7,10 @@ pub returns-then-file-next : goal.returns-then-file-next
 unfolding over_if
 returns-then-file-next c = rw (le-leb _ _ c.if-file-next.true)
 
-pub returns-in-Ignored : goal.returns-in-Ignored
+pub returns-in-None : goal.returns-in-None
 unfolding over_if
-returns-in-Ignored c = rw (lt-leb _ _ c.if-file-next.false, c.in-Ignored.is)
+returns-in-None c = rw (lt-leb _ _ c.if-file-next.false, c.in-None.is)
 
-pub returns-in-Refused : goal.returns-in-Refused
+pub returns-in-Some : goal.returns-in-Some
 unfolding over_if
-returns-in-Refused c = rw (lt-leb _ _ c.if-file-next.false, c.in-Refused.is)
+returns-in-Some c = rw (lt-leb _ _ c.if-file-next.false, c.in-Some.is)

@@ -1,11 +1,13 @@
 -- `vmd_scan::oversized_section` meets its contract. Assumes nothing.
+use mathlib.Core.Path.{ap}
+use Rattle.vmd_format.specs.Answer.{given}
 use Rattle.vmd_laws.specs.Places.{over_span}
 use Rattle.vmd_scan.proofs.oversized_section.Goals as goal
 
-pub returns-in-Refused : goal.returns-in-Refused
+pub returns-in-Some : goal.returns-in-Some
 unfolding over_span
-returns-in-Refused c = rw c.in-Refused.is
+returns-in-Some c = rw c.in-Some.is
 
-pub returns-in-Emptied : goal.returns-in-Emptied
+pub returns-in-None : goal.returns-in-None
 unfolding over_span
-returns-in-Emptied c = rw c.in-Emptied.is c.no_section.ensures
+returns-in-None c = rw c.in-None.is (ap given c.no_section.ensures)

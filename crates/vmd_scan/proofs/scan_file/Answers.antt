@@ -1,21 +1,7 @@
--- `vmd_scan::scan_file` meets its contract. Assumes nothing.
-use mathlib.Core.Path.{sym, ap, ◌∙◌}
-use Rattle.vmd_format.specs.Answer.{and_then}
-use Rattle.vmd_laws.specs.Places.{scan_file}
-use Rattle.vmd_header.specs.Meaning.{header_answer}
-use Rattle.vmd_header.proofs.Laws.{sections_begin, header_headed, header_refused}
+-- `vmd_scan::scan_file` meets its contract: what the value carries is what the format says of a scan. Assumes nothing.
+use mathlib.Core.Path.{sym}
+use Rattle.vmd_laws.specs.ExportLaws.{scan_scanned}
 use Rattle.vmd_scan.proofs.scan_file.Goals as goal
 
-pub scan_sections-requires : goal.scan_sections-requires
-scan_sections-requires c =
-    (header_headed _ _ (sym c.read_header.ensures ∙ ap header_answer c.in-Read.is)).starts
-
-pub returns-in-Refused : goal.returns-in-Refused
-unfolding scan_file and_then
-returns-in-Refused c =
-    rw (header_refused _ _ (sym c.read_header.ensures ∙ ap header_answer c.in-Refused.is))
-
-pub returns-in-Read : goal.returns-in-Read
-unfolding scan_file and_then
-returns-in-Read c =
-    rw (sections_begin _ _ (sym c.read_header.ensures ∙ ap header_answer c.in-Read.is)) c.scan_sections.ensures
+pub invariant_of-result : goal.invariant_of-result
+invariant_of-result c = record { scanned = scan_scanned _ _ _ (sym c.in_ok-sections.ensures); bytes = λ j. (c.type_inv.file j).fits }

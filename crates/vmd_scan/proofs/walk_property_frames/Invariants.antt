@@ -6,8 +6,9 @@ use lib.ListN.{length}
 use Rattle.vmd_laws.specs.Places.{walk}
 use Rattle.vmd_scan.proofs.walk_property_frames.Given as goal
 
-abbrev pub invariant-loop-i : goal.invariant-loop-i
-invariant-loop-i l = (l.i ≤ l.n) × (l.at ≤ length l.file) × (l.ik_states * 21 ≤ l.at) × (walk l.file (l.n - l.i) l.at l.ik_states ≡ walk l.file l.n l.place 0)
-
-abbrev pub decreases-loop-i : goal.decreases-loop-i
-decreases-loop-i l = l.n - l.i
+abbrev pub invariant-loop : goal.invariant-loop
+invariant-loop l = record {
+  inside : l.at ≤ length l.file;
+  states : l.ik_states * 21 ≤ l.at;
+  walked : walk l.file (l.n - l.counter) l.at l.ik_states ≡ walk l.file l.n l.place 0;
+}

@@ -4,4 +4,4 @@ use Rattle.vmd_season.proofs.figures_of.Goals as goal
 
 pub returns : goal.returns
 returns c =
-    figures_found _ _ c.requires c.count_tracks-bone_names.ensures c.count_tracks-morph_names.ensures
+    rw c.counts.ensures (figures_found _ _ c.args.take.now.scanned c.count_tracks-bone_names.ensures c.count_tracks-morph_names.ensures)

@@ -1,32 +1,26 @@
 -- `vmd_split::split_file_sizes` meets its contract. Assumes nothing.
 use mathlib.Core.Path.{sym, ◌∙◌}
 use native.Mathlib.Omega.{arith}
-use Rattle.vmd_output.proofs.Saves.{heard}
-use Rattle.vmd_scan.specs.Meaning.{scan_is, scan_answer}
-use Rattle.vmd_laws.specs.InsideLaws.{inside_file}
+use borrow.Author.Tests.{le-leb}
+use Rattle.std.proofs.lemmas.Bool.Decides.{nat_tests}
+use Rattle.vmd_base.proofs.Refused.{handed_on}
+use Rattle.vmd_scan.specs.Meaning.{scan_is}
 use Rattle.vmd_split.proofs.Laws.{counted, sizes_refused, sizes_given, sizes_over}
 use Rattle.vmd_split.proofs.split_file_sizes.Goals as goal
 
-pub count_names-bones-requires : goal.count_names-bones-requires
-count_names-bones-requires c =
-    let i = inside_file _ _ _ (heard scan_answer c.scan_file.ensures c.in-Scanned.is) in
-    omega (arith, i.bones.ends)
+pub returns-in_err-take : goal.returns-in_err-take
+returns-in_err-take c = handed_on _ _ _ c.from_residual.ensures.1 ∙ sizes_refused _ _ (sym c.in_err-take.ensures.found)
 
-pub count_names-morphs-requires : goal.count_names-morphs-requires
-count_names-morphs-requires c =
-    let i = inside_file _ _ _ (heard scan_answer c.scan_file.ensures c.in-Scanned.is) in
-    omega (arith, i.morphs.ends)
+pub returns-then-morphs-le-LARGEST_TABLE : goal.returns-then-morphs-le-LARGEST_TABLE
+returns-then-morphs-le-LARGEST_TABLE c =
+    let t = c.in_ok-take.ensures in
+    let x = scan_is c.in_ok-take.take.sections in
+    rw (← t.same) (sizes_given _ _ {x = x} (rw t.same (sym t.found)) (counted _ x.bones 111 c.count_names-bones.ensures) (counted _ x.morphs 23 c.count_names-morphs.ensures)
+    (rw (le-leb _ _ c.if-bones-le-LARGEST_TABLE.true, le-leb _ _ c.if-morphs-le-LARGEST_TABLE.true)))
 
-pub returns-then-also_fits : goal.returns-then-also_fits
-returns-then-also_fits c =
-    let x = scan_is c.in-Scanned.a in
-    sizes_given _ _ (heard scan_answer c.scan_file.ensures c.in-Scanned.is) (counted _ x.bones 111 c.count_names-bones.ensures) (counted _ x.morphs 23 c.count_names-morphs.ensures) (sym c.also_fits.ensures ∙ c.if-also_fits.true)
-
-pub returns-in-Refused : goal.returns-in-Refused
-returns-in-Refused c =
-    sizes_refused _ _ (heard scan_answer c.scan_file.ensures c.in-Refused.is)
-
-pub returns-else-also_fits : goal.returns-else-also_fits
-returns-else-also_fits c =
-    let x = scan_is c.in-Scanned.a in
-    sizes_over _ _ (heard scan_answer c.scan_file.ensures c.in-Scanned.is) (counted _ x.bones 111 c.count_names-bones.ensures) (counted _ x.morphs 23 c.count_names-morphs.ensures) (sym c.also_fits.ensures ∙ c.if-also_fits.false)
+pub returns : goal.returns
+returns c =
+    let t = c.in_ok-take.ensures in
+    let x = scan_is c.in_ok-take.take.sections in
+    rw (← t.same) (sizes_over _ _ {x = x} (rw t.same (sym t.found)) (counted _ x.bones 111 c.count_names-bones.ensures) (counted _ x.morphs 23 c.count_names-morphs.ensures)
+    (grind (arith, nat_tests, c.else-bones-le-LARGEST_TABLE.either)))

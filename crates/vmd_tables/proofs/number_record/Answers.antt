@@ -2,6 +2,7 @@
 use mathlib.Core.Path.{refl}
 use native.Mathlib.Omega.{arith}
 use Rattle.vmd_tables.specs.Leading.{again, added}
+use Rattle.vmd_tables.proofs.Numbering.{record_room}
 use Rattle.vmd_tables.proofs.number_record.Goals as goal
 
 pub returns-then-e-i : goal.returns-then-e-i
@@ -9,7 +10,7 @@ returns-then-e-i c = again c.if-e-i.true refl refl refl refl refl
 
 pub add_name-end-requires : goal.add_name-end-requires
 add_name-end-requires c =
-    (omega arith, c.requires.fits.room c.if-e-i.false)
+    (record_room c.args.i c.args.rows.rows c.requires.i_in_bounds.0, c.requires.fits.room c.if-e-i.false)
 
 pub overflow_cast-ends : goal.overflow_cast-ends
 overflow_cast-ends c =

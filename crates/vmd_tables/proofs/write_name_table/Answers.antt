@@ -12,15 +12,12 @@ returns-then-n-eq0 c =
 
 pub settle_leaders-requires : goal.settle_leaders-requires
 settle_leaders-requires c =
-    let p = c.requires.n_in_bounds in
     let l = c.list_leaders-m.ensures in
     let o = c.sort_records.ensures in (
-      record { within = p.0; wide = p.1; some = omega (arith, c.if-n-eq0.false) },
-      p.2,
       omega (arith, l.beyond.0.long),
-      omega (arith, l.leads.1.few, l.beyond.1.long, swaps_length o.1),
+      omega (arith, l.leads.1.few, l.beyond.1.long, swaps_length o.2),
       l.leads.0,
-      lists_swaps o.1 l.leads.1,
+      lists_swaps o.2 l.leads.1,
       o.0,
     )
 
@@ -30,18 +27,12 @@ number_records-requires c =
     let l = c.list_leaders-m.ensures in
     let o = c.sort_records.ensures in
     let t = c.settle_leaders.ensures in record {
-      rows = (
-        record { within = p.n_in_bounds.0; wide = p.n_in_bounds.1; some = omega (arith, c.if-n-eq0.false) },
-        p.n_in_bounds.2,
-        omega (arith, l.beyond.1.long, swaps_length o.1),
-        omega (arith, l.beyond.0.long, t.1.long),
-        t.0,
-      );
-      n_in_bounds = p.n_in_bounds_2;
+      led = (omega (arith, l.beyond.1.long, swaps_length o.2), omega (arith, l.beyond.0.long, t.1.long), t.0);
+      room = p.n_in_bounds_2;
     }
 
 pub returns : goal.returns
 returns c =
     let l = c.list_leaders-m.ensures in
     let t = c.settle_leaders.ensures in
-    record { numbered = numbered_over (beyond_then l.beyond.1 (beyond_swaps l.leads.1.few c.sort_records.ensures.1)) c.number_records.ensures; beyond = beyond_then l.beyond.0 t.1 }
+    record { numbered = numbered_over (beyond_then l.beyond.1 (beyond_swaps l.leads.1.few c.sort_records.ensures.2)) c.number_records.ensures; beyond = beyond_then l.beyond.0 t.1 }

@@ -17,5 +17,5 @@ pub returns : goal.returns
 returns c =
     let a = c.args in
     name_written c.word_at.result c.word_at-2.result c.low_bytes-low.result c.low_bytes-high.result a.bytes.now a.start a.n a.out.now a.to
-    c.requires.0 c.requires.2 c.past_word-past.ensures c.word_at.ensures c.low_bytes-low.ensures c.word_at-2.ensures c.low_bytes-high.ensures
+    c.requires.0 c.requires.2 c.saturating_sub-past.ensures c.word_at.ensures c.low_bytes-low.ensures c.word_at-2.ensures c.low_bytes-high.ensures
     c.put_word.ensures c.put_word-2.ensures

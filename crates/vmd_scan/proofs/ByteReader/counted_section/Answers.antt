@@ -12,8 +12,8 @@ use Rattle.vmd_scan.proofs.ByteReader.counted_section.Goals as goal
 pub overflow_mul-bytes : goal.overflow_mul-bytes
 overflow_mul-bytes c = record { fits = size_fits _ _ (search rules) (search rules) }
 
-pub overflow_add-result : goal.overflow_add-result
-overflow_add-result c =
+pub overflow_add-next : goal.overflow_add-next
+overflow_add-next c =
     let a = c.args in
     omega (arith, leb-true (a.count * a.record_size) (length a.file.now - a.self.pos) (sym c.require_record_bytes.ensures ∙ c.if-require_record_bytes.true))
 

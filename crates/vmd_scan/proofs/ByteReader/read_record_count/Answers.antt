@@ -1,15 +1,11 @@
 -- `vmd_scan::ByteReader::read_record_count` meets its contract. Assumes nothing.
-use mathlib.Core.Path.{sym, ap, ◌∙◌}
-use Rattle.vmd_format.specs.Answer.{and_then}
-use Rattle.vmd_scan.specs.Meaning.{number_answer}
+use mathlib.Core.Path.{sym, ◌∙◌}
+use Rattle.vmd_base.proofs.Refused.{first_refused, first_given}
 use Rattle.vmd_scan.proofs.Laws.{span_steps}
 use Rattle.vmd_scan.proofs.ByteReader.read_record_count.Goals as goal
 
-pub returns-in-Refused : goal.returns-in-Refused
-unfolding and_then
-returns-in-Refused c = rw (span_steps, sym c.read_u32_le.ensures ∙ ap number_answer c.in-Refused.is)
+pub returns-in_err-count : goal.returns-in_err-count
+returns-in_err-count c = first_refused _ _ _ _ c.from_residual.ensures.1 c.in_err-count.ensures ∙ sym (span_steps _ _ _ _)
 
-pub returns-in-Value : goal.returns-in-Value
-unfolding and_then
-returns-in-Value c =
-    rw (span_steps, sym c.read_u32_le.ensures ∙ ap number_answer c.in-Value.is) c.counted_section.ensures
+pub returns : goal.returns
+returns c = first_given _ _ c.in_ok-count.ensures c.counted_section.ensures ∙ sym (span_steps _ _ _ _)

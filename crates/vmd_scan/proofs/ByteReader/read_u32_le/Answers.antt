@@ -8,4 +8,4 @@ pub returns-then-remaining-lt4 : goal.returns-then-remaining-lt4
 returns-then-remaining-lt4 c = sym (number_short _ _ (omega arith))
 
 pub returns : goal.returns
-returns c = sym (number_whole _ _ _ (omega arith) c.read_u32_le.ensures)
+returns c = sym (number_whole _ _ _ (omega arith) c.read_u32_le-n.ensures)

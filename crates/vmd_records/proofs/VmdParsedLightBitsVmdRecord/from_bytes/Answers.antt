@@ -1,0 +1,8 @@
+-- `vmd_records::VmdParsedLightBits::from_bytes` meets its contract, field by field: drops in a row are one drop. Assumes nothing.
+use lib.Seq.{drop-drop}
+use Rattle.vmd_records.proofs.Opened.{opened}
+use Rattle.vmd_records.proofs.VmdParsedLightBitsVmdRecord.from_bytes.Goals as goal
+
+pub returns : goal.returns
+unfolding opened
+returns c = simp drop-drop (cc)
