@@ -289,10 +289,6 @@ module _ (f : ℕ → ℕ) where
   marked_above free d = absurd (d refl)
   marked_above (mark g x y) d = let e : suc g - 1 ≡ g = omega arith in rw e y
 
-  pub marked_small : {lo i c : ℕ} → Marked f lo i c → c ≤ i
-  marked_small free = omega arith
-  marked_small (mark g x y) = omega arith
-
   -- tests of floors, ceilings and places kept
   true_false : {A : Type 0} → true ≡ false → A
   true_false e = let z : ◌≡◌ {A = ℕ} 0 1 = cc in absurd (omega arith)
@@ -388,7 +384,3 @@ bound_none (Some g) t h e = absurd cc
 pub bound_some : (o : Option ℕ) (t : Bool) → is_some o ≡ not t → t ≡ false → ¬ (bound o ≡ 0)
 bound_some None t h e = absurd cc
 bound_some (Some g) t h e = λ z. omega arith
-
-pub bound_record : (o : Option ℕ) (g : ℕ) → o ≡ Some g → ¬ (bound o ≡ 0)
-bound_record None g e = absurd cc
-bound_record (Some f) g e = λ z. omega arith

@@ -13,10 +13,6 @@ use Rattle.vmd_format.specs.Answer.{Answer, declined, given, map_answer, unless,
 use Rattle.vmd_bytes.specs.Slices.{splice}
 use Rattle.vmd_bytes.specs.Written.{Room, Wrote}
 
--- what a call answered, where its result is known
-pub heard : {A B : Type 0} (f : A → B) {r v : A} {y : B} → f r ≡ y → r ≡ v → y ≡ f v
-heard f e g = sym e ∙ ap f g
-
 -- A call that is to write w into out answers a and leaves o.
 abbrev pub Saves : Answer (List ℕ) → List ℕ → Answer ℕ → List ℕ → Type 0
 Saves w out a o = (a ≡ map_answer length (fitted (length out) w)) × (o ≡ left out (fitted (length out) w))

@@ -7,8 +7,8 @@ use lib.ListN.{take, drop}
 use lib.Seq.{drop-drop}
 use Rattle.vmd_format.specs.Layout.{Layout, number, flag, name, raw, ◌⊗◌, as_record}
 use Rattle.vmd_format.specs.Answer.{Answer, declined, given, and_then, map_answer}
-use Rattle.vmd_format.specs.Records.{bone, morph, camera, light, self_shadow, ik_state}
-use Rattle.vmd_laws.specs.SizedLaws.{bone_sized, morph_sized, camera_sized, light_sized, self_shadow_sized, ik_state_sized}
+use Rattle.vmd_format.specs.Records.{bone, morph, camera, ik_state}
+use Rattle.vmd_laws.specs.SizedLaws.{bone_sized, camera_sized, ik_state_sized}
 use Rattle.vmd_format.specs.Opening.{Extent}
 use Rattle.vmd_format.specs.Fetch.{record_place, fetch, or_empty, property_place, ik_extent, fetch_ik_state}
 use Rattle.vmd_places.specs.Meaning.{ik_place}
@@ -20,17 +20,8 @@ use Rattle.vmd_places.proofs.Parts.{Front, front_name, front_bytes, there_cuts}
 pub bone_size : bone.size ≡ 111
 bone_size = bone_sized.size
 
-pub morph_size : morph.size ≡ 23
-morph_size = morph_sized.size
-
 pub camera_size : camera.size ≡ 61
 camera_size = camera_sized.size
-
-pub light_size : light.size ≡ 28
-light_size = light_sized.size
-
-pub self_shadow_size : self_shadow.size ≡ 9
-self_shadow_size = self_shadow_sized.size
 
 ik_size : ik_state.size ≡ 21
 ik_size = ik_state_sized.size

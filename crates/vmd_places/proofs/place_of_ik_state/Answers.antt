@@ -1,5 +1,5 @@
 -- `vmd_places::place_of_ik_state` meets its contract. Assumes nothing.
-use mathlib.Core.Path.{sym, ◌∙◌}
+use mathlib.Core.Path.{sym}
 use native.Mathlib.Omega.{arith}
 use Rattle.vmd_format.specs.Fetch.{ik_extent}
 use Rattle.vmd_base.proofs.Refused.{first_refused, first_given}
