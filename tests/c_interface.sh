@@ -15,6 +15,10 @@ library=$(host/library) || fail "there is no library"
 
 warnings=(-Wall -Wextra -Werror -pedantic -Iinclude)
 
+# What the library wants from outside is memset alone (README, "From C and Rust").
+wanted=$(nm -u "$library" | awk '$1 == "U" { print $2 }' | sort -u | paste -sd' ')
+[ "$wanted" = memset ] || fail "the library wants from outside: $wanted"
+
 # C++ programs include the header and link the library as well; the newer C++ warns of sums of two enums.
 cat > "$work/header.cpp" <<'END'
 #include <cstdint>

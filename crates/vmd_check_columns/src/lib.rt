@@ -103,7 +103,9 @@ impl<'a> VmdBoneColumns<'a> {
         ensures { check_of result ≡ each (bone_right self.now.name_indices.now names (bits self.now.translations_xyz.now) (bits self.now.rotations_xyzw.now))
             (upto 0 (length self.now.name_indices.now)) }
     {
-        check_each(self.len(), |i| self.bone_check(names, i))
+        // A copy: through self, the places of the columns are read anew for each bone.
+        let columns = *self;
+        check_each(self.len(), move |i| columns.bone_check(names, i))
     }
 }
 
@@ -137,7 +139,8 @@ impl<'a> VmdMorphColumns<'a> {
         requires { length self.now.weights.now ≡ length self.now.name_indices.now }
         ensures { check_of result ≡ each (morph_right self.now.name_indices.now names (bits self.now.weights.now)) (upto 0 (length self.now.name_indices.now)) }
     {
-        check_each(self.len(), |i| self.morph_check(names, i))
+        let columns = *self;
+        check_each(self.len(), move |i| columns.morph_check(names, i))
     }
 }
 

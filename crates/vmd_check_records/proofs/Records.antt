@@ -21,39 +21,28 @@ use Rattle.vmd_check_records.specs.Stages.{finite_words}
 
 -- ---- floats one after another
 
-words_false : (n : ℕ) (s : List ℕ) → finite_words false n s ≡ false
-unfolding finite_words
-words_false zero s = refl
-words_false (suc n) s = words_false n (drop 4 s)
-
--- what holds before each turn: those from number i on are finite just where all are
-pub record Words (s : List ℕ) (at n i : ℕ) : Type 0 where
-  pub whole : finite_words true (n - i) (drop (at + i * 4) s) ≡ finite_words true n (drop at s)
+-- what holds before each turn: b says whether those before number i are finite
+pub record Words (s : List ℕ) (at n i : ℕ) (b : Bool) : Type 0 where
+  pub whole : finite_words b (n - i) (drop (at + i * 4) s) ≡ finite_words true n (drop at s)
 
 module _ {s : List ℕ} {at n : ℕ} where
-  pub words_start : Words s at n 0
+  pub words_start : Words s at n 0 true
   words_start =
       let a : at + 0 * 4 ≡ at = omega arith in
       let m : n - 0 ≡ n = omega arith in
       record { whole = rw (a, m) }
 
-  module _ {i : ℕ} (g : Words s at n i) (h : i < n) {bits : ℕ} {r : Bool} (b : bits ≡ u32 (drop (at + i * 4) s)) (e : r ≡ finite bits) where
-    words_turns : finite_words r (n - (i + 1)) (drop (at + (i + 1) * 4) s) ≡ finite_words true n (drop at s)
+  module _ {i : ℕ} {b : Bool} (g : Words s at n i b) where
+    pub words_turn : i < n → {bits : ℕ} {r : Bool} → bits ≡ u32 (drop (at + i * 4) s) → r ≡ finite bits → Words s at n (i + 1) (b && r)
     unfolding finite_words
-    words_turns =
+    words_turn h e f =
         let d : n - i ≡ suc (n - (i + 1)) = omega arith in
         let p : at + i * 4 + 4 ≡ at + (i + 1) * 4 = omega arith in
-        rw (e, b, ← p, ← drop-drop 4 (at + i * 4) s) (rw d at g.whole)
+        record { whole = rw (f, e, ← p, ← drop-drop 4 (at + i * 4) s) (rw d at g.whole) }
 
-    pub words_fail : r ≡ false → false ≡ finite_words true n (drop at s)
-    words_fail f = sym (words_false (n - (i + 1)) (drop (at + (i + 1) * 4) s)) ∙ rw f at words_turns
-
-    pub words_turn : r ≡ true → Words s at n (i + 1)
-    words_turn f = record { whole = rw f at words_turns }
-
-  pub words_end : {i : ℕ} → Words s at n i → n ≤ i → true ≡ finite_words true n (drop at s)
-  unfolding finite_words
-  words_end {i = i} g h = let d : n - i ≡ 0 = omega arith in rw d at g.whole
+    pub words_end : n ≤ i → b ≡ finite_words true n (drop at s)
+    unfolding finite_words
+    words_end h = let d : n - i ≡ 0 = omega arith in rw d at g.whole
 
 -- ---- each record's check, at a place
 

@@ -64,7 +64,9 @@ impl<'a> VmdExcerpt<'a> {
         }
     }
 
-    // Bones, morphs and cameras. The result is the place after them.
+    // Bones, morphs and cameras. The result is the place after them. Not inlined, and the next one neither: their loops then keep
+    // the ends of the span in registers.
+    #[inline(never)]
     fn write_front(&self, out: &mut [u8], to: usize) -> usize
         requires { Room out.old to (front_bytes self.now.span.first self.now.span.last self.now.take.file.now (scan_is self.now.take.sections)) }
         ensures { Wrote out.old to (front_bytes self.now.span.first self.now.span.last self.now.take.file.now (scan_is self.now.take.sections)) out.new result }
@@ -80,6 +82,7 @@ impl<'a> VmdExcerpt<'a> {
     }
 
     // Lights, self-shadows and properties.
+    #[inline(never)]
     fn write_back(&self, out: &mut [u8], to: usize) -> usize
         requires { Room out.old to (back_bytes self.now.span.first self.now.span.last self.now.take.file.now (scan_is self.now.take.sections)) }
         ensures { Wrote out.old to (back_bytes self.now.span.first self.now.span.last self.now.take.file.now (scan_is self.now.take.sections)) out.new result }

@@ -224,6 +224,26 @@ fn join_size(manner: VmdManner, first: &[u8], second: &[u8]) -> Result<u64, VmdR
 
 // ---- export and joining
 
+// A take and nothing under a model name, where the output can hold them. They are put together here, where they are lent on: as
+// the result of `alone` they would be copied by a call of memcpy, which the library wants nowhere else.
+fn write_alone(
+    take: VmdScanned,
+    out: &mut [u8],
+    edition: VmdEdition,
+    model: &[u8],
+) -> Result<u64, VmdRefusal>
+    ensures result_value { answer_of result ≡ map_answer length (fitted (length out.old) (given (write_edition (edition_is edition) (take_of_both model.now take.entry.file.now (scan_is take.entry.sections) take.entry.file.now no_scan)))) }
+    ensures out_after { out.new ≡ left out.old (fitted (length out.old) (given (write_edition (edition_is edition) (take_of_both model.now take.entry.file.now (scan_is take.entry.sections) take.entry.file.now no_scan)))) }
+{
+    let file = take.file;
+    let sections = no_sections();
+    let both = VmdBoth {
+        first: take,
+        second: VmdScanned { file, sections },
+    };
+    both.write_take(out, edition, model)
+}
+
 fn export(
     manner: VmdManner,
     edition: VmdEdition,
@@ -234,7 +254,7 @@ fn export(
     ensures out_after { out.new ≡ left out.old (fitted (length out.old) (edition_file (edition_is edition) (manner_of manner) file.now)) }
 {
     let take = scan_fitting(manner, edition, file)?;
-    alone(take).write_take(out, edition, vmd_header::model_name(file))
+    write_alone(take, out, edition, vmd_header::model_name(file))
 }
 
 // The first file's model name where that is not empty, else the second's.

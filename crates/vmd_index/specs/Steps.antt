@@ -5,6 +5,7 @@ use Rattle.vmd_index.specs.declared.Cause.TheVariants as cause
 use Rattle.vmd_index.specs.declared.Phase.{Phase}
 use Rattle.vmd_index.specs.declared.Phase.TheVariants.{Blank, BlankReturn, Comment, Pointer, Tab, Zero, Prefix, CodePoint, Return, Past, NoEntry, Faulty}
 use Rattle.vmd_index.specs.declared.IndexReader.{IndexReader}
+use Rattle.vmd_index.specs.declared.IndexLine.{IndexLine}
 use Rattle.vmd_index.specs.declared.Fault.{Fault}
 use Rattle.vmd_index.specs.declared.IndexRead.{IndexRead}
 use Rattle.vmd_index.specs.Index.{blank, digit, hexadecimal, judged, capped, LineEnd, Answer, words, faulty_line}
@@ -90,6 +91,10 @@ marked ws p = cond (nat_lt p 11280) (slice_set ws (p / 32) ((slice_index ws (p /
 
 unfoldable pub first_reader : IndexReader
 first_reader = record { words = replicate 353 0; line = 1; least = 0; phase = Blank }
+
+-- a table, and the line that is being read
+abbrev pub reader_at : List ℕ → IndexLine → IndexReader
+reader_at ws x = record { words = ws; line = x.line; least = x.least; phase = x.phase }
 
 unfoldable pub after_line : LineEnd → IndexReader → IndexReader
 after_line e r = record {

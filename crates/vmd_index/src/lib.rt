@@ -8,7 +8,7 @@ ghost use Rattle.vmd_bytes.specs.Slices.{splice};
 ghost use Rattle.vmd_bytes.specs.Written.{Wrote};
 ghost use Rattle.vmd_text.specs.Text.{number_lines};
 ghost use Rattle.vmd_index.specs.Index.{blank, digit, hexadecimal, judged, capped};
-ghost use Rattle.vmd_index.specs.Steps.{with_digit, after_blanks, after_digits, after_code_point, next_phase, phase_end, marked, first_reader, after_line, step, fed, ended};
+ghost use Rattle.vmd_index.specs.Steps.{with_digit, after_blanks, after_digits, after_code_point, next_phase, phase_end, marked, first_reader, reader_at, after_line, step, fed, ended};
 ghost use Rattle.vmd_index.specs.Output.{reason, message};
 
 // Why there is no table for a line.
@@ -219,11 +219,19 @@ fn mark(words: &mut [u32; vmd_presence::WORDS], p: u32)
 
 // ---- the reader
 
-impl IndexReader {
+// The line that is being read, apart from the table: what each byte changes is held where no table stands, and so in registers.
+#[derive(Clone, Copy, Debug, PartialEq, Eq)]
+struct IndexLine {
+    line: u64,
+    least: u32,
+    phase: Phase,
+}
+
+impl IndexLine {
     // The next line begins. Line numbers stop at the largest.
     #[tactic(auto, unfolding(crate::specs::Index::capped))]
     fn begin_line(&mut self)
-        ensures { self.new ≡ record { words = self.old.words; line = capped (self.old.line + 1); least = self.old.least; phase = Phase.Blank } }
+        ensures { self.new ≡ record { line = capped (self.old.line + 1); least = self.old.least; phase = Phase.Blank } }
     {
         self.line = self.line.saturating_add(1);
         self.phase = Phase::Blank;
@@ -231,13 +239,13 @@ impl IndexReader {
 
     // The line ends: its pointer is set. A line at fault keeps its number, and stays at fault.
     #[tactic(auto, unfolding(crate::specs::Steps::after_line, crate::specs::Steps::marked))]
-    fn end_line(&mut self)
-        ensures { self.new ≡ after_line (phase_end self.old.least self.old.phase) self.old }
+    fn end_line(&mut self, words: &mut [u32; vmd_presence::WORDS])
+        ensures { reader_at words.new self.new ≡ after_line (phase_end self.old.least self.old.phase) (reader_at words.old self.old) }
     {
         match phase_end(self.least, self.phase) {
             Ok(None) => self.begin_line(),
             Ok(Some(p)) => {
-                mark(&mut self.words, p);
+                mark(words, p);
                 self.least = p.min(POINTERS - 1) + 1;
                 self.begin_line();
             }
@@ -247,11 +255,11 @@ impl IndexReader {
 
     // Reads a byte.
     #[tactic(auto, unfolding(crate::specs::Steps::step, crate::specs::Steps::in_line))]
-    fn step(&mut self, b: u8)
-        ensures { self.new ≡ step self.old b }
+    fn step(&mut self, b: u8, words: &mut [u32; vmd_presence::WORDS])
+        ensures { reader_at words.new self.new ≡ step (reader_at words.old self.old) b }
     {
         if b == b'\n' {
-            self.end_line();
+            self.end_line(words);
         } else {
             self.phase = next_phase(self.phase, b);
         }
@@ -275,11 +283,21 @@ pub fn index_reader() -> IndexReader
 pub fn read_index(reader: IndexReader, piece: &[u8]) -> IndexReader
     ensures { result ≡ fed reader piece.now }
 {
-    let mut after = reader;
+    let mut words = reader.words;
+    let mut at = IndexLine {
+        line: reader.line,
+        least: reader.least,
+        phase: reader.phase,
+    };
     for &b in piece {
-        after.step(b);
+        at.step(b, &mut words);
     }
-    after
+    IndexReader {
+        words,
+        line: at.line,
+        least: at.least,
+        phase: at.phase,
+    }
 }
 
 // What the index makes, once all of it is read: the end of the input ends the last line.

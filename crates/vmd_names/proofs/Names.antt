@@ -1,5 +1,5 @@
 -- Laws of the name test for code. Assumes nothing.
-use Prim.Native.Nat.{ℕ, suc, ◌+◌, ◌≤◌, ◌<◌, ◌-◌}
+use Prim.Native.Nat.{ℕ, zero, suc, ◌+◌, ◌≤◌, ◌<◌, ◌-◌}
 use mathlib.Core.Path.{◌≡◌, refl, sym, ◌∙◌}
 use mathlib.Core.Bool.{Bool, true, false, cond, ◌&&◌, ◌||◌, and-eq-true_iff}
 use mathlib.Core.List.{List}
@@ -15,6 +15,7 @@ use Rattle.vmd_format.specs.Characters.{between, pointer, character}
 use Rattle.vmd_format.specs.Names.{single, lead, trail, pair, unit, fault, good}
 use Rattle.vmd_laws.specs.CharacterLaws.{pointer_below}
 use Rattle.vmd_laws.specs.NamesLaws.{field_past, field_stop, field_end, unit_single, unit_cut, unit_two, unit_le, GoodTo, fault_step}
+use Rattle.vmd_names.specs.Meaning.{unit_if_any}
 use Rattle.vmd_format.specs.Refusal.{name_unfit, name_not_good}
 use Rattle.vmd_format.specs.Parts.{Check, fails, ◌next◌, need, name_check}
 
@@ -87,6 +88,22 @@ module _ (s : List ℕ) (i : ℕ) {r : Bool} (e : r ≡ single (get_or s i 0)) w
 
     pub none_there : q ≡ false → unit (drop i s) ≡ 0
     none_there t = unit_two s i (omega arith) (sym e ∙ f) ∙ rw (← add-one i, ← p, t)
+
+-- of a unit or none by its number of bytes, and back
+module _ {u : ℕ} where
+  pub unit_none : u ≡ 0 → None ≡ unit_if_any u
+  unit_none e = rw e refl
+
+  pub unit_some : {n : ℕ} → suc n ≡ u → Some (suc n) ≡ unit_if_any u
+  unit_some e = rw (← e) refl
+
+pub none_unit : (u : ℕ) → None ≡ unit_if_any u → u ≡ 0
+none_unit zero e = refl
+none_unit (suc u) e = let z : ◌≡◌ {A = ℕ} 0 1 = cc in absurd (omega arith)
+
+pub some_unit : {n : ℕ} (u : ℕ) → Some n ≡ unit_if_any u → (0 < n) × (n ≡ u)
+some_unit zero e = let z : ◌≡◌ {A = ℕ} 0 1 = cc in absurd (omega arith)
+some_unit (suc u) e = let k : _ ≡ suc u = cc in (omega (arith, k), k)
 
 module _ (s : List ℕ) (i : ℕ) where
   pub unit_within : {n : ℕ} → n ≡ unit (drop i s) → i ≤ length s → i + n ≤ length s

@@ -1,13 +1,13 @@
 // The test of a name's bytes. Internal, but for first_fault, which asks nothing of its caller.
 #![tactic(auto)]
 
-ghost use Rattle.std.specs.Prelude.{◌≡◌, ℕ, cond, ◌&&◌, ◌||◌, ◌-◌, ◌≤◌, ◌<◌, length, drop, ltb, Some, None, MatchOption};
+ghost use Rattle.std.specs.Prelude.{◌≡◌, ℕ, cond, ◌&&◌, ◌||◌, ◌-◌, ◌≤◌, ◌<◌, length, drop, ltb, Some, None};
 ghost use Rattle.vmd_format.specs.Bytes.{before_zero};
 ghost use Rattle.vmd_format.specs.Characters.{between, pointer};
 ghost use Rattle.vmd_format.specs.Names.{single, lead, trail, pair, unit, fault, good};
 ghost use Rattle.vmd_format.specs.Parts.{Check, need, each, upto, name_check};
 ghost use Rattle.vmd_base.specs.Meaning.{refusal_of};
-ghost use Rattle.vmd_names.specs.Meaning.{check_of};
+ghost use Rattle.vmd_names.specs.Meaning.{check_of, unit_if_any};
 
 use vmd_base::VmdRefusal;
 use vmd_presence::VmdPresence;
@@ -60,7 +60,7 @@ fn is_pair(presence: &VmdPresence, a: u8, b: u8) -> bool
 // How many bytes the good single byte or the good pair at a place has.
 fn unit_at(presence: &VmdPresence, bytes: &[u8], at: usize) -> Option<usize>
     requires { at < length bytes.now }
-    ensures { MatchOption result (unit (drop at bytes.now) ≡ 0) (λ n. (0 < n) × (n ≡ unit (drop at bytes.now))) }
+    ensures { result ≡ unit_if_any (unit (drop at bytes.now)) }
 {
     if is_single(bytes[at]) {
         return Some(1);

@@ -55,7 +55,7 @@ const PRESENCE: [u32; WORDS] = [
 ];
 
 // The table, and that it is the index's.
-#[derive(Drop)]
+#[derive(Clone, Copy, Debug)]
 pub struct VmdPresence {
     pub words: [u32; WORDS],
     pub ghost right: { Presence words },

@@ -43,7 +43,8 @@ fn low_bytes(x: u64, n: usize) -> u64
 }
 
 // Writes the n bytes of a name at a place of a table, and then zeros to two words. Names end anywhere, so it does not branch
-// on the length, but where the table has fewer than two words from that place on.
+// on the length, but where the table has fewer than two words from that place on. In line, as write_name is.
+#[inline(always)]
 fn write_table_name(bytes: &[u8], start: usize, n: usize, out: &mut [u8], to: usize)
     requires { (n ≤ 15) × (start + n ≤ length bytes.now) × (to + 16 ≤ length out.old) }
     ensures { out.new ≡ splice out.old to (padded 16 (run bytes.now start n)) }
@@ -114,10 +115,11 @@ fn write_bone_frame(
         bones.now.name_indices.now bones.now.frames.now (bits bones.now.translations_xyz.now) (bits bones.now.rotations_xyzw.now) bones.now.interpolations.now i)) }
 {
     let name = bones.name_indices[i] as usize;
+    // The name first: what is read before it would wait on the stack meanwhile.
+    write_name(names, name, out, to);
     let frame = bones.frames[i];
     let translation = &bones.translations_xyz[3 * i..3 * i + 3];
     let rotation = &bones.rotations_xyzw[4 * i..4 * i + 4];
-    write_name(names, name, out, to);
     vmd_bytes::write_u32_le(out, to + VmdParsedBoneFrame::FRAME_OFFSET, frame);
     write_floats(
         translation,

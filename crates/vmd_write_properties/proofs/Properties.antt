@@ -17,13 +17,14 @@ use Rattle.vmd_bytes.specs.Written.{Wrote, Rest}
 use Rattle.vmd_bytes.proofs.Laws.{splice_append_at, splice_snoc_at, length_u32_bytes}
 use Rattle.vmd_bytes.proofs.Writes.{first_room, first_then, none_left}
 
--- number, flag, count and IK states written one after another
-pub frame_written : {x y o : List ℕ} {m v n r : ℕ} (s l : List ℕ) (at to : ℕ) → to + 9 ≤ length l
+-- number, flag, count and as many IK states written one after another
+pub frame_written : {x y o : List ℕ} {m v n k r : ℕ} (s l : List ℕ) (at to : ℕ) → to + 9 ≤ length l
     → m ≡ u32 (drop at s) → x ≡ splice l to (u32_bytes m) → v ≡ flag_byte (is_set (get_or s (at + 4) 0))
     → n ≡ u32 (drop (at + 5) s) → y ≡ splice (set x (to + 4) v) (to + 5) (u32_bytes n)
-    → Wrote y (to + 9) (write_all ik_state.encode (table ik_state n (drop (at + 9) s))) o r
+    → k ≡ n → Wrote y (to + 9) (write_all ik_state.encode (table ik_state k (drop (at + 9) s))) o r
     → Wrote l to (property.write (property_in s at)) o r
-frame_written {m = m} {v} {n} s l at to h e a b d f g =
+frame_written {y = y} {o} {m} {v} {n} {r = r} s l at to h e a b d f i written =
+    let g : Wrote y (to + 9) (write_all ik_state.encode (table ik_state n (drop (at + 9) s))) o r = rw (← i) written in
     let states : List ℕ = write_all ik_state.encode (table ik_state n (drop (at + 9) s)) in
     let front : List ℕ = u32_bytes m ++ (v ∷ []) in
     let k : length front ≡ 5 = length-append (u32_bytes m) (v ∷ []) ∙ omega (arith, length_u32_bytes m) in

@@ -130,7 +130,8 @@ impl VmdWrite for VmdParsedIkState {
 // ---- a kind of record as a value: the kinds that have one size
 
 // n records of a kind. The kind is looked at once, so that each has its own loop: the match picks a type, which no closure or
-// table could.
+// table could. Inlined: where a caller names the kind, its loop alone is left, with the size in place.
+#[inline(always)]
 pub fn write_records(
     out: &mut [u8],
     to: usize,

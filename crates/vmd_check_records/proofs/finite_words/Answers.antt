@@ -1,16 +1,12 @@
-use Rattle.vmd_check_records.proofs.Records.{words_start, words_fail, words_turn, words_end}
+use Rattle.vmd_check_records.proofs.Records.{words_start, words_turn, words_end}
 use Rattle.vmd_check_records.proofs.finite_words.Goals as goal
 
 pub loop-i-init : goal.loop-i-init
 loop-i-init c = words_start
 
-pub returns-then-not-is_finite_bits : goal.returns-then-not-is_finite_bits
-returns-then-not-is_finite_bits c =
-    words_fail c.loop-i.invariant c.loop-i-test.true c.read_u32_le-bits.ensures c.is_finite_bits.ensures c.if-not-is_finite_bits.true
-
 pub loop-i-preserved : goal.loop-i-preserved
 loop-i-preserved c =
-    words_turn c.loop-i.invariant c.loop-i-test.true c.read_u32_le-bits.ensures c.is_finite_bits.ensures c.if-not-is_finite_bits.false
+    words_turn c.loop-i.invariant c.loop-i-test.true c.read_u32_le-bits.ensures c.is_finite_bits-finite.ensures
 
 pub returns : goal.returns
 returns c = words_end c.loop-i.invariant c.loop-i-test.false

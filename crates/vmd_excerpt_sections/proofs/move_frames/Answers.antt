@@ -1,25 +1,37 @@
-use Rattle.std.proofs.Common.{◌≡◌, ◌+◌, ◌-◌, ◌*◌}
-use native.Mathlib.Nat.{sub-zero, zero-mul, add-zero}
+use Rattle.std.proofs.Common.{◌≡◌, ◌+◌, ◌-◌}
+use native.Mathlib.Nat.{sub-zero}
 use native.Mathlib.Omega.{arith}
+use Rattle.vmd_bytes.proofs.Writes.{less_one}
 use Rattle.vmd_records.specs.Kinds.{size_of}
 use Rattle.vmd_excerpt_sections.specs.RowLaws.{moving_start, moving_frame, moving_turn, moving_end}
+use Rattle.vmd_excerpt_sections.specs.FrameLaws.{frame_fits}
 use Rattle.vmd_excerpt_sections.proofs.move_frames.Goals as goal
 
-pub loop-i-init : goal.loop-i-init
-loop-i-init c = rw (zero-mul, add-zero, add-zero, sub-zero) (moving_start c.args.kind c.args.first c.args.n c.args.at c.requires.0 c.requires.1 c.requires.2 c.requires.3)
+pub loop-init : goal.loop-init
+loop-init c = rw sub-zero (moving_start c.args.kind c.args.first c.args.n c.args.at c.requires.0 c.requires.1 c.requires.2 c.requires.3)
+
+pub frame_at-frame-requires : goal.frame_at-frame-requires
+frame_at-frame-requires c = omega (arith, c.loop.invariant.lie, less_one (c.args.n - c.loop.counter) (size_of c.args.kind) (omega arith))
+
+pub overflow_add-q : goal.overflow_add-q
+overflow_add-q c = omega (arith, c.frame_offset-offset.ensures, c.loop.invariant.room, less_one (c.args.n - c.loop.counter) (size_of c.args.kind) (omega arith), frame_fits c.args.kind)
 
 pub overflow_sub-frame : goal.overflow_sub-frame
-overflow_sub-frame c = omega (arith, rw c.size-size.ensures at c.frame_at-frame.ensures, moving_frame c.args.kind c.args.first c.loop-i.invariant (omega arith))
+overflow_sub-frame c = omega (arith, c.frame_at-frame.ensures, moving_frame c.args.kind c.args.first c.loop.invariant (omega arith))
 
-pub loop-i-preserved : goal.loop-i-preserved
-loop-i-preserved c =
-    let k = size_of c.args.kind in
-    let i = c.loop-i.i in
-    let e : c.args.n - (i + 1) ≡ c.args.n - i - 1 = omega arith in
-    let p : c.args.at + (i + 1) * k ≡ c.args.at + i * k + k = omega arith in
-    let q : c.args.to + (i + 1) * k ≡ c.args.to + i * k + k = omega arith in
-    let f = rw c.size-size.ensures at c.frame_at-frame.ensures in
-    rw (e, p, q) (moving_turn c.args.kind c.args.first c.loop-i.invariant (omega arith) (rw (c.frame_offset-offset.ensures, c.size-size.ensures, f) at c.write_u32_le.ensures))
+pub write_u32_le-requires : goal.write_u32_le-requires
+write_u32_le-requires c = omega (arith, c.frame_offset-offset.ensures, c.loop.invariant.room, less_one (c.args.n - c.loop.counter) (size_of c.args.kind) (omega arith), frame_fits c.args.kind)
+
+pub overflow_add-p : goal.overflow_add-p
+overflow_add-p c = omega (arith, c.size-size.ensures, c.loop.invariant.lie, less_one (c.args.n - c.loop.counter) (size_of c.args.kind) (omega arith))
+
+pub overflow_add-q-in-loop : goal.overflow_add-q-in-loop
+overflow_add-q-in-loop c = omega (arith, c.size-size.ensures, c.loop.invariant.room, less_one (c.args.n - c.loop.counter) (size_of c.args.kind) (omega arith))
+
+pub loop-preserved : goal.loop-preserved
+loop-preserved c =
+    let e : c.args.n - (c.loop.counter + 1) ≡ c.args.n - c.loop.counter - 1 = omega arith in
+    rw (e, c.size-size.ensures) (moving_turn c.args.kind c.args.first c.loop.invariant (omega arith) (rw (c.frame_offset-offset.ensures, c.frame_at-frame.ensures) at c.write_u32_le.ensures))
 
 pub returns : goal.returns
-returns c = moving_end c.args.kind c.args.first c.loop-i.invariant (omega arith)
+returns c = moving_end c.args.kind c.args.first c.loop.invariant (omega arith)

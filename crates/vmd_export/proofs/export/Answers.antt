@@ -13,7 +13,6 @@ returns-in_err-take c =
 pub returns : goal.returns
 returns c =
     let t = c.in_ok-take.ensures in
-    let a = c.alone.ensures in
-    let w = c.write_take.ensures in
-    let whole = same_saved _ (export_given _ _ _ _ (sym t.found)) (rw (c.model_name.ensures, a.0, a.1 ∙ t.same, a.2, a.3 ∙ t.same) at w.result_value, rw (c.model_name.ensures, a.0, a.1 ∙ t.same, a.2, a.3 ∙ t.same) at w.out_after) in
+    let w = c.write_alone.ensures in
+    let whole = same_saved _ (export_given _ _ _ _ (sym t.found)) (rw (c.model_name.ensures, t.same) at w.result_value, rw (c.model_name.ensures, t.same) at w.out_after) in
     record { result_value = whole.0; out_after = whole.1 }

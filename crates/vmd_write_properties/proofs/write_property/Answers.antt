@@ -10,9 +10,9 @@ pub write_each-requires : goal.write_each-requires
 unfolding next_frame
 write_each-requires c =
     let s = c.args in
-    (omega arith, room_section ik_state_sized c.read_u32_le-count.result (drop (s.at + 9) s.src.now) _ (omega (arith, simp length-set at c.write_u32_le-2.auto.out)))
+    (omega arith, room_section ik_state_sized _ (drop (s.at + 9) s.src.now) _ (omega (arith, simp length-set at c.write_u32_le-2.auto.out)))
 
 pub returns : goal.returns
 unfolding next_frame
 returns c =
-    frame_written c.args.src.now c.args.out.now c.args.at c.args.to (omega arith) c.read_u32_le-frame.ensures c.write_u32_le.ensures c.canonical_flag-flag.ensures c.read_u32_le-count.ensures c.write_u32_le-2.ensures c.write_each.ensures
+    frame_written c.args.src.now c.args.out.now c.args.at c.args.to (omega arith) c.read_u32_le-frame.ensures c.write_u32_le.ensures c.canonical_flag-flag.ensures c.read_u32_le-count.ensures c.write_u32_le-2.ensures (omega arith) c.write_each.ensures
